@@ -1,0 +1,385 @@
+-- Laws about a frame that was read: where the parts of its header lie, and what is behind it.
+-- Assumes nothing.
+use mathlib.Core.Path.{_≡_, refl, sym, ap, subst, _∙_}
+use mathlib.Core.Bool.{Bool, true, false, cond}
+use mathlib.Core.List.{List, [], _∷_, _++_, map}
+use mathlib.Core.Option.{Option, none, some}
+use Prim.Native.Nat.{ℕ, zero, suc, _+_, _-_, _*_, _≤_, _<_}
+use native.Mathlib.Omega.{arith}
+use native.Mathlib.Nat.{zero-add}
+use borrow.Author.Tests.{leb-true, eqb-true}
+use lib.ListN.{length, take, drop, replicate, length-drop, length-replicate, length-map, replicate-append-replicate}
+use lib.Seq.{sets-eq, drop-drop, drop-at}
+use lib.Dec.{leb, eqb}
+use Rattle.wire.specs.Wire.{wordAt, wordOf, segmentAt, stored, joined}
+use Rattle.wire.specs.declared.Word.{Word}
+use Rattle.wire.specs.declared.Word.the-variants as word
+use Rattle.wire.specs.declared.Segment.{Segment}
+use Rattle.wire.specs.declared.ReadSegment.{ReadSegment}
+use Rattle.lists.specs.Parsed.{Parsed, refused, done, andThen, require, each}
+use Rattle.lists.specs.Lists.{markerOf, readList, writeList, counted, replyChunk}
+use Rattle.lists.specs.Steps.{markedSegmentAt, chunksAt, ChunksFit, withChunks, zeroSegment, zeroReads}
+use Rattle.lists.specs.declared.WriteList.{WriteList}
+use Rattle.lists.proofs.Laws.{never, required, both, word-room, Chunk, chunk-of, end-room, ChunkFront, chunk-front}
+use Rattle.lists.proofs.Laws as laws
+use Rattle.lists.proofs.Found.{reads-of, writes-of, reply-refused, reply-absent, reply-chunk, ReadsAre, WritesAre}
+use Rattle.header.specs.Content.{Content, padded, readListOf, writeListOf, replyChunkOf, headerOf}
+use Rattle.header.specs.Frame.{threeParts, errorContent, afterWord, errorBody, nothingBehind, byProcedure, readFrame, readAnswer, payloadOf}
+use Rattle.header.specs.Shape.{isPresent, replies, shapeOf, frameWalk, emptyReply, bareContent}
+use Rattle.header.specs.declared.Kind.{Kind}
+use Rattle.header.specs.declared.Kind.the-variants.{Msg, Nomsg}
+use Rattle.header.specs.declared.ErrorKind.{ErrorKind}
+use Rattle.header.specs.declared.ErrorKind.the-variants as error
+use Rattle.header.specs.declared.Header.{Header}
+use Rattle.header.specs.declared.Shape.{Shape}
+use Rattle.header.specs.declared.FrameWalk.the-variants as walk
+use Rattle.header.proofs.Walks.{suffix}
+
+-- The segments of a reply chunk.
+abbrev pub replySegments : Option (List Segment) → List Segment
+replySegments none = []
+replySegments (some l) = l
+
+-- The reply chunk in the bytes of s from p on, with t behind it.
+pub record ReplyLies (s : List ℕ) (reply : Option (List Segment)) (t : List ℕ) : Type 0 where
+  pub few : replies reply ≤ 16
+  pub short : length t ≤ length s
+  pub long : replies reply * 16 ≤ length s - length t
+  pub behind : t ≡ drop (length s - length t) s
+  pub are : replySegments reply ≡ each 16 (λ v. segmentAt v 0) (replies reply) (drop (length s - length t - replies reply * 16) s)
+
+pub reply-lies : (s : List ℕ) (p : ℕ) (reply : Option (List Segment)) (t : List ℕ) → p ≤ length s → replyChunk (drop p s) ≡ done reply t → ReplyLies s reply t
+unfolding each
+reply-lies s p reply t fits e = go (chunk-front 1 16 (drop p s))
+  where
+    ended : (4 ≤ length (drop p s)) → done none (drop 4 (drop p s)) ≡ done reply t → ReplyLies s reply t
+    ended four q =
+        let absent : reply ≡ none = cc in
+        let rest : t ≡ drop (p + 4) s = sym (let r : drop 4 (drop p s) ≡ t = cc in r) ∙ drop-drop 4 p s in
+        let size : length t ≡ length s - (p + 4) = ap length rest ∙ length-drop (p + 4) s in
+        let total = length-drop p s in
+        let n : length s - length t ≡ p + 4 = omega arith in
+        rw absent (record { few = omega arith; short = omega arith; long = omega arith; behind = rest ∙ ap (λ (j : ℕ). drop j s) (sym n); are = refl })
+    chunked : (c : List Segment) (u : List ℕ) → Chunk 16 (drop p s) c u → done (some c) u ≡ done reply t → ReplyLies s reply t
+    chunked c u k q =
+        let present : reply ≡ some c = cc in
+        let few = k .few in
+        let long = k .long in
+        let total = length-drop p s in
+        let rest : t ≡ drop (p + (8 + length c * 16)) s = sym (let r : u ≡ t = cc in r) ∙ k .behind ∙ drop-drop (8 + length c * 16) p s in
+        let size : length t ≡ length s - (p + (8 + length c * 16)) = ap length rest ∙ length-drop (p + (8 + length c * 16)) s in
+        let n : length s - length t ≡ p + (8 + length c * 16) = omega arith in
+        let m : p + 8 ≡ length s - length t - length c * 16 = omega arith in
+        rw present
+        (record {
+          few = few;
+          short = omega arith;
+          long = omega arith;
+          behind = rest ∙ ap (λ (j : ℕ). drop j s) (sym n);
+          are = k .is ∙ ap (each 16 (λ v. segmentAt v 0) (length c)) (drop-drop 8 p s ∙ ap (λ (j : ℕ). drop j s) m)
+        })
+    go : ChunkFront 1 16 (drop p s) → ReplyLies s reply t
+    go (laws.ChunkFront.ends f m) = let a = reply-absent (drop p s) f in ended (a .0) (sym (a .1) ∙ e)
+    go (laws.ChunkFront.unmarked k f m) = absurd (never (sym (reply-refused (drop p s) k f) ∙ e))
+    go (laws.ChunkFront.full f m h) = absurd (omega arith)
+    go (laws.ChunkFront.uncounted k f m h q) = absurd (never (sym (reply-refused (drop p s) k f) ∙ e))
+    go (laws.ChunkFront.goes c u f m h q) =
+        chunked c u (chunk-of 16 (drop p s) c u m q) (sym (reply-chunk (drop p s) c u m q) ∙ e)
+
+-- Where the parts of a header lie.
+pub record Lies (s : List ℕ) (c : Content) (t : List ℕ) : Type 0 where
+  pub xid : c .xid ≡ wordAt s 0
+  pub credit : c .credit ≡ wordAt s 8
+  pub reads-few : length (c .reads) ≤ 16
+  pub reads-long : 20 + length (c .reads) * 24 ≤ length s
+  pub reads-are : c .reads ≡ each 24 markedSegmentAt (length (c .reads)) (drop 16 s)
+  pub writes-few : length (c .writes) ≤ 4
+  pub writes-within : length (joined (λ w. w) (c .writes)) ≤ 16
+  pub writes-fit : ChunksFit (length (c .writes)) 16 (drop (20 + length (c .reads) * 24) s)
+  pub writes-are : c .writes ≡ chunksAt (length (c .writes)) (drop (20 + length (c .reads) * 24) s)
+  pub reply : ReplyLies s (c .reply) t
+
+parts-lie : (kind : Kind) (s : List ℕ) (c : Content) (t : List ℕ) → 16 ≤ length s → threeParts kind (wordAt s 0) (wordAt s 8) (drop 16 s) ≡ done c t → Lies s c t
+unfolding threeParts
+parts-lie kind s c t long e =
+    let a = both (readList 16 0 (drop 16 s)) e in
+    let b = both (writeList 4 16 (a .behind)) (a .then) in
+    let r = both (replyChunk (b .behind)) (b .then) in
+    let x = reads-of 16 0 (drop 16 s) (a .first) (a .behind) (a .is) in
+    let y = writes-of 4 16 (a .behind) (b .first) (b .behind) (b .is) in
+    go (a .first) (b .first) (r .first) (a .behind) (b .behind) (r .behind) x y (r .is) (r .then)
+  where
+    go : (reads : List ReadSegment) (writes : List (List Segment)) (reply : Option (List Segment)) (u v w : List ℕ) →
+        ReadsAre 16 (drop 16 s) reads u → WritesAre 4 16 u writes v → replyChunk v ≡ done reply w →
+        done (record { kind = kind; xid = wordAt s 0; credit = wordAt s 8; reads = reads; writes = writes; reply = reply }) w ≡ done c t → Lies s c t
+    go reads writes reply u v w x y r q =
+        let is : c ≡ record { kind = kind; xid = wordAt s 0; credit = wordAt s 8; reads = reads; writes = writes; reply = reply } = cc in
+        let rest : t ≡ w = cc in
+        let front = length-drop 16 s in
+        let n : 16 + (4 + length reads * 24) ≡ 20 + length reads * 24 = omega arith in
+        let here : u ≡ drop (20 + length reads * 24) s = x .behind ∙ drop-drop (4 + length reads * 24) 16 s ∙ ap (λ (j : ℕ). drop j s) n in
+        let enough : 20 + length reads * 24 ≤ length s = omega (arith, x .long) in
+        let size : length u ≡ length s - (20 + length reads * 24) = ap length here ∙ length-drop (20 + length reads * 24) s in
+        let there : v ≡ drop (length s - length v) s = suffix s u v (20 + length reads * 24) enough here (y .short) (y .behind) in
+        let shorter = y .short in
+        let reply-there : replyChunk (drop (length s - length v) s) ≡ done reply w = subst (λ (z : List ℕ). replyChunk z ≡ done reply w) there r in
+        rw (is, rest)
+        (record {
+          xid = refl;
+          credit = refl;
+          reads-few = x .few;
+          reads-long = enough;
+          reads-are = x .is;
+          writes-few = y .few;
+          writes-within = y .within;
+          writes-fit = subst (ChunksFit (length writes) 16) here (y .fits);
+          writes-are = y .is ∙ ap (chunksAt (length writes)) here;
+          reply = reply-lies s (length s - length v) reply w (omega arith) reply-there
+        })
+
+-- An ERROR header has empty lists, wherever it ends.
+bare-lies : (e : ErrorKind) (s : List ℕ) (t : List ℕ) (end : ℕ) → 20 ≤ length s → end ≤ length s → t ≡ drop end s → Lies s (errorContent e (wordAt s 0) (wordAt s 8)) t
+unfolding ChunksFit chunksAt each joined
+bare-lies e s t end long fits rest =
+    let size : length t ≡ length s - end = ap length rest ∙ length-drop end s in
+    let n : end ≡ length s - length t = omega arith in
+    record {
+      xid = refl;
+      credit = refl;
+      reads-few = omega arith;
+      reads-long = omega arith;
+      reads-are = refl;
+      writes-few = omega arith;
+      writes-within = omega arith;
+      writes-fit = tt;
+      writes-are = refl;
+      reply = record { few = omega arith; short = omega arith; long = omega arith; behind = rest ∙ ap (λ (j : ℕ). drop j s) n; are = refl }
+    }
+
+error-lies : (s : List ℕ) (c : Content) (t : List ℕ) → 16 ≤ length s → errorBody (wordAt s 0) (wordAt s 8) (drop 16 s) ≡ done c t → Lies s c t
+unfolding errorBody
+error-lies s c t long e = coded (wordOf (drop 16 s)) refl e
+  where
+    front : length (drop 16 s) ≡ length s - 16
+    front = length-drop 16 s
+    ended : (x : ErrorKind) (u : List ℕ) (end : ℕ) → 20 ≤ length s → end ≤ length s → u ≡ drop end s → done (errorContent x (wordAt s 0) (wordAt s 8)) u ≡ done c t → Lies s c t
+    ended x u end h fits rest q =
+        let is : c ≡ errorContent x (wordAt s 0) (wordAt s 8) = cc in
+        let same : t ≡ u = cc in
+        rw (is, same) (bare-lies x s u end h fits rest)
+    upper : (low : ℕ) → 20 ≤ length s → (w : Word) → wordOf (drop 8 (drop 16 s)) ≡ w →
+        afterWord w (λ high. done (errorContent (error.Version low high) (wordAt s 0) (wordAt s 8)) (drop 12 (drop 16 s))) ≡ done c t → Lies s c t
+    upper low h (word.Refused n) r q = absurd (never q)
+    upper low h (word.Value high) r q =
+        let room = word-room (drop 8 (drop 16 s)) high r in
+        ended (error.Version low high) (drop 12 (drop 16 s)) 28 h (omega (arith, front, length-drop 8 (drop 16 s))) (drop-drop 12 16 s) q
+    lower : 20 ≤ length s → (w : Word) →
+        afterWord w (λ low. afterWord (wordOf (drop 8 (drop 16 s))) (λ high. done (errorContent (error.Version low high) (wordAt s 0) (wordAt s 8)) (drop 12 (drop 16 s)))) ≡ done c t → Lies s c t
+    lower h (word.Refused n) q = absurd (never q)
+    lower h (word.Value low) q = upper low h (wordOf (drop 8 (drop 16 s))) refl q
+    chosen : 20 ≤ length s → (first second : Bool) →
+        cond first
+        (afterWord (wordOf (drop 4 (drop 16 s))) (λ low. afterWord (wordOf (drop 8 (drop 16 s))) (λ high. done (errorContent (error.Version low high) (wordAt s 0) (wordAt s 8)) (drop 12 (drop 16 s)))))
+        (cond second (done (errorContent error.Chunk (wordAt s 0) (wordAt s 8)) (drop 4 (drop 16 s))) (refused 10)) ≡ done c t → Lies s c t
+    chosen h true y q = lower h (wordOf (drop 4 (drop 16 s))) q
+    chosen h false true q = ended error.Chunk (drop 4 (drop 16 s)) 20 h h (drop-drop 4 16 s) q
+    chosen h false false q = absurd (never q)
+    coded : (w : Word) → wordOf (drop 16 s) ≡ w →
+        afterWord w (λ code. cond (eqb code 1)
+        (afterWord (wordOf (drop 4 (drop 16 s))) (λ low. afterWord (wordOf (drop 8 (drop 16 s))) (λ high. done (errorContent (error.Version low high) (wordAt s 0) (wordAt s 8)) (drop 12 (drop 16 s)))))
+        (cond (eqb code 2) (done (errorContent error.Chunk (wordAt s 0) (wordAt s 8)) (drop 4 (drop 16 s))) (refused 10))) ≡ done c t → Lies s c t
+    coded (word.Refused n) r q = absurd (never q)
+    coded (word.Value code) r q =
+        let room = word-room (drop 16 s) code r in
+        chosen (omega (arith, front)) (eqb code 1) (eqb code 2) q
+
+-- Where the parts of a frame that was read lie.
+pub frame-lies : (s : List ℕ) (c : Content) (t : List ℕ) → readFrame s ≡ done c t → Lies s c t
+unfolding readFrame byProcedure
+frame-lies s c t e =
+    let a = required (leb 16 (length s)) _ _ e in
+    let b = required (eqb (wordAt s 4) 1) _ _ (a .1) in
+    go (eqb (wordAt s 12) 0) (eqb (wordAt s 12) 1) (eqb (wordAt s 12) 3) (eqb (wordAt s 12) 4) (leb-true 16 (length s) (a .0)) (b .1)
+  where
+    bare : (p : Parsed Content) → nothingBehind p ≡ done c t → p ≡ done c t
+    bare p q =
+        let d = both p q in
+        let f = required (eqb (length (d .behind)) 0) _ _ (d .then) in
+        d .is ∙ f .1
+    go : (zeroth first third fourth : Bool) → 16 ≤ length s →
+        cond zeroth (threeParts Msg (wordAt s 0) (wordAt s 8) (drop 16 s))
+        (cond first (nothingBehind (threeParts Nomsg (wordAt s 0) (wordAt s 8) (drop 16 s)))
+        (cond third (refused 4)
+        (cond fourth (nothingBehind (errorBody (wordAt s 0) (wordAt s 8) (drop 16 s)))
+        (refused 3)))) ≡ done c t → Lies s c t
+    go true x y z h q = parts-lie Msg s c t h q
+    go false true y z h q = parts-lie Nomsg s c t h (bare _ q)
+    go false false true z h q = absurd (never q)
+    go false false false true h q = error-lies s c t h (bare _ q)
+    go false false false false h q = absurd (never q)
+
+-- A frame that was checked was read, and its shape is that of its content.
+pub record Found (s : List ℕ) (shape : Shape) : Type 0 where
+  pub content : Content
+  pub behind : List ℕ
+  pub read : readFrame s ≡ done content behind
+  pub shape-is : shape ≡ shapeOf content (length s - length behind)
+  pub lies : Lies s content behind
+
+pub found : (s : List ℕ) (shape : Shape) → frameWalk (length s) (readFrame s) ≡ walk.Found shape → Found s shape
+unfolding frameWalk
+found s shape e = go (readFrame s) refl e
+  where
+    go : (p : Parsed Content) → readFrame s ≡ p → frameWalk (length s) p ≡ walk.Found shape → Found s shape
+    go (refused n) r q = absurd (let z : _≡_ {A = ℕ} 0 1 = cc in omega arith)
+    go (done c t) r q = record { content = c; behind = t; read = r; shape-is = cc; lies = frame-lies s c t r }
+
+pub unfound : (s : List ℕ) (n : ℕ) → frameWalk (length s) (readFrame s) ≡ walk.Refused n → readFrame s ≡ refused n
+unfolding frameWalk
+unfound s n e = go (readFrame s) e
+  where
+    go : (p : Parsed Content) → frameWalk (length s) p ≡ walk.Refused n → p ≡ refused n
+    go (refused k) q = cc
+    go (done c t) q = absurd (let z : _≡_ {A = ℕ} 0 1 = cc in omega arith)
+
+drop-replicate : {A : Type 0} (k n : ℕ) (a : A) → k ≤ n → drop k (replicate n a) ≡ replicate (n - k) a
+drop-replicate {A} k n a h =
+    let e : n ≡ k + (n - k) = omega arith in
+    ap (λ (m : ℕ). drop k (replicate m a)) e
+    ∙ ap (λ (l : List A). drop k l) (sym (replicate-append-replicate k (n - k) a))
+    ∙ drop-at (replicate k a) (replicate (n - k) a) k (length-replicate k a)
+
+-- What is stored at the front of empty places is padded by the rest of them.
+pub stored-padded : {A : Type 0} (n : ℕ) (z : A) (l : List A) → length l ≤ n → stored (replicate n z) 0 l ≡ padded n z l
+unfolding stored
+stored-padded {A} n z l h =
+    let fits : 0 + length l ≤ length (replicate n z) = rw (zero-add, length-replicate) h in
+    sets-eq l (replicate n z) 0 fits ∙ rw zero-add (ap (λ (r : List A). l ++ r) (drop-replicate (length l) n z h))
+
+-- A list of no entries.
+pub none-of : {A : Type 0} (l : List A) → length l ≡ 0 → l ≡ []
+none-of [] e = refl
+none-of (x ∷ l) e = absurd (omega arith)
+
+-- The payload is what stands behind where the header ends.
+pub payload-lies : (s : List ℕ) (shape : Shape) → Found s shape → (shape .end ≤ length s) × (drop (shape .end) s ≡ payloadOf (readFrame s))
+payload-lies s shape f =
+    let ends : shape .end ≡ length s - length (f .behind) = ap (λ (x : Shape). x .end) (f .shape-is) in
+    let short = f .lies .reply .short in
+    (omega arith, rw (f .read, ends) (sym (f .lies .reply .behind)))
+
+-- An empty reply chunk, present or not.
+pub empty-reply : (present : Bool) → record { segments = replicate 16 zeroSegment; count = 0; present = present } ≡ replyChunkOf (emptyReply present)
+empty-reply true = refl
+empty-reply false = refl
+
+no-replies : (reply : Option (List Segment)) → replies reply ≡ 0 → reply ≡ emptyReply (isPresent reply)
+no-replies none e = refl
+no-replies (some l) e = ap some (none-of l e)
+
+-- A frame whose lists are empty.
+pub bare-read : (s : List ℕ) (shape : Shape) → Found s shape → shape .reads + shape .chunks + shape .replies ≡ 0 →
+    readAnswer (readFrame s) ≡ record { header = headerOf (bareContent (shape .kind) (wordAt s 0) (wordAt s 8) (shape .present)); number = 0 }
+bare-read s shape f e =
+    let c = f .content in
+    let k : shape .kind ≡ c .kind = ap (λ (x : Shape). x .kind) (f .shape-is) in
+    let n : shape .reads ≡ length (c .reads) = ap (λ (x : Shape). x .reads) (f .shape-is) in
+    let m : shape .chunks ≡ length (c .writes) = ap (λ (x : Shape). x .chunks) (f .shape-is) in
+    let r : shape .replies ≡ replies (c .reply) = ap (λ (x : Shape). x .replies) (f .shape-is) in
+    let p : shape .present ≡ isPresent (c .reply) = ap (λ (x : Shape). x .present) (f .shape-is) in
+    rw (f .read, k, p) (ap (λ (x : Content). record { header = headerOf x; number = 0 })
+    (same c (f .lies .xid) (f .lies .credit) (none-of (c .reads) (omega arith)) (none-of (c .writes) (omega arith)) (no-replies (c .reply) (omega arith))))
+  where
+    same : (c : Content) → c .xid ≡ wordAt s 0 → c .credit ≡ wordAt s 8 → c .reads ≡ [] → c .writes ≡ [] → c .reply ≡ emptyReply (isPresent (c .reply)) →
+        c ≡ bareContent (c .kind) (wordAt s 0) (wordAt s 8) (isPresent (c .reply))
+    same c x y a b r = λ i. record { kind = c .kind; xid = x i; credit = y i; reads = a i; writes = b i; reply = r i }
+
+-- A header put together from the places where its parts lie.
+abbrev pub builtFrom : List ℕ → Shape → Header
+builtFrom s shape = record {
+  reads = record { segments = stored zeroReads 0 (each 24 markedSegmentAt (shape .reads) (drop 16 s)); count = shape .reads };
+  writes =
+    withChunks 0 0 (record { segments = replicate 16 zeroSegment; counts = replicate 4 0; chunks = shape .chunks })
+    (chunksAt (shape .chunks) (drop (20 + shape .reads * 24) s));
+  reply = record {
+    segments = stored (replicate 16 zeroSegment) 0 (each 16 (λ v. segmentAt v 0) (shape .replies) (drop (shape .end - shape .replies * 16) s));
+    count = shape .replies;
+    present = shape .present
+  };
+  kind = shape .kind;
+  xid = wordAt s 0;
+  credit = wordAt s 8
+}
+
+built-writes : (cs : List (List Segment)) → length cs ≤ 4 → length (joined (λ w. w) cs) ≤ 16 →
+    withChunks 0 0 (record { segments = replicate 16 zeroSegment; counts = replicate 4 0; chunks = length cs }) cs ≡ writeListOf cs
+unfolding withChunks
+built-writes cs few within =
+    let a = stored-padded 16 zeroSegment (joined (λ w. w) cs) within in
+    let b = stored-padded 4 0 (map length cs) (rw length-map few) in
+    λ i. record { segments = a i; counts = b i; chunks = length cs }
+
+built-reply : (reply : Option (List Segment)) (l : List Segment) → replies reply ≤ 16 → replySegments reply ≡ l →
+    record { segments = stored (replicate 16 zeroSegment) 0 l; count = replies reply; present = isPresent reply } ≡ replyChunkOf reply
+built-reply reply l few e = rw (← e) (go reply few)
+  where
+    go : (reply : Option (List Segment)) → replies reply ≤ 16 →
+        record { segments = stored (replicate 16 zeroSegment) 0 (replySegments reply); count = replies reply; present = isPresent reply } ≡ replyChunkOf reply
+    go none h = let a = stored-padded 16 zeroSegment [] (omega arith) in λ i. record { segments = a i; count = 0; present = false }
+    go (some r) h = let a = stored-padded 16 zeroSegment r h in λ i. record { segments = a i; count = length r; present = true }
+
+pub built : (s : List ℕ) (shape : Shape) → Found s shape → builtFrom s shape ≡ readAnswer (readFrame s) .header
+unfolding headerOf
+built s shape f = rw (f .read, f .shape-is)
+    (λ i. record { reads = reads i; writes = writes i; reply = reply i; kind = c .kind; xid = sym (l .xid) i; credit = sym (l .credit) i })
+  where
+    c : Content
+    c = f .content
+    l : Lies s (f .content) (f .behind)
+    l = f .lies
+    reads : record { segments = stored zeroReads 0 (each 24 markedSegmentAt (length (c .reads)) (drop 16 s)); count = length (c .reads) } ≡ readListOf (c .reads)
+    reads =
+        let p = ap (stored zeroReads 0) (sym (l .reads-are)) ∙ stored-padded 16 (record { position = 0; target = zeroSegment }) (c .reads) (l .reads-few) in
+        λ i. record { segments = p i; count = length (c .reads) }
+    writes : withChunks 0 0 (record { segments = replicate 16 zeroSegment; counts = replicate 4 0; chunks = length (c .writes) }) (chunksAt (length (c .writes)) (drop (20 + length (c .reads) * 24) s)) ≡ writeListOf (c .writes)
+    writes =
+        ap (withChunks 0 0 (record { segments = replicate 16 zeroSegment; counts = replicate 4 0; chunks = length (c .writes) })) (sym (l .writes-are))
+        ∙ built-writes (c .writes) (l .writes-few) (l .writes-within)
+    reply : record {
+      segments = stored (replicate 16 zeroSegment) 0 (each 16 (λ v. segmentAt v 0) (replies (c .reply)) (drop (length s - length (f .behind) - replies (c .reply) * 16) s));
+      count = replies (c .reply);
+      present = isPresent (c .reply)
+    } ≡ replyChunkOf (c .reply)
+    reply = built-reply (c .reply) _ (l .reply .few) (l .reply .are)
+
+-- The same of parts that were filled one by one.
+pub built-by : (s : List ℕ) (shape : Shape) → Found s shape → (rs : List ReadSegment) (w : WriteList) (ps : List Segment) (x y : ℕ) →
+    rs ≡ stored zeroReads 0 (each 24 markedSegmentAt (shape .reads) (drop 16 s)) → w ≡ builtFrom s shape .writes →
+    ps ≡ stored (replicate 16 zeroSegment) 0 (each 16 (λ v. segmentAt v 0) (shape .replies) (drop (shape .end - shape .replies * 16) s)) →
+    x ≡ wordAt s 0 → y ≡ wordAt s 8 →
+    record {
+      reads = record { segments = rs; count = shape .reads };
+      writes = w;
+      reply = record { segments = ps; count = shape .replies; present = shape .present };
+      kind = shape .kind;
+      xid = x;
+      credit = y
+    } ≡ readAnswer (readFrame s) .header
+built-by s shape f rs w ps x y a b c d e =
+    (λ i. record {
+      reads = record { segments = a i; count = shape .reads };
+      writes = b i;
+      reply = record { segments = c i; count = shape .replies; present = shape .present };
+      kind = shape .kind;
+      xid = d i;
+      credit = e i
+    })
+    ∙ built s shape f
+
+-- The chunks of a frame that was checked fit.
+pub chunks-fit : (s : List ℕ) (shape : Shape) → Found s shape → ChunksFit (shape .chunks) 16 (drop (20 + shape .reads * 24) s)
+chunks-fit s shape f = rw (f .shape-is) (f .lies .writes-fit)
+
+-- An accepted reading answers 0 and the header.
+pub answer-is : (s : List ℕ) (shape : Shape) → Found s shape → (h : Header) → h ≡ readAnswer (readFrame s) .header → record { header = h; number = 0 } ≡ readAnswer (readFrame s)
+answer-is s shape f h e = rw (e, f .read)

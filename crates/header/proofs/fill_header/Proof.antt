@@ -1,0 +1,262 @@
+use Rattle.lists.specs.Steps.{markedSegmentAt, zeroReads, zeroSegment, withChunks, chunksAt}
+use Rattle.lists.specs.Parsed.{each}
+use Rattle.wire.specs.Wire.{stored}
+use lib.ListN.{replicate}
+use Prim.Native.Nat.{ℕ, _+_, _*_}
+use mathlib.Core.List.{List}
+use Rattle.header.proofs.Lies.{found, built-by, chunks-fit}
+use lib.ListN.{length-drop}
+use Rattle.wire.proofs.Laws.{part-from}
+use Rattle.header.specs.declared.Shape.{Shape}
+use denote.Ref.{now}
+use native.Mathlib.Omega.{arith}
+use mathlib.Core.Path.{_≡_, refl, sym, ap, _∙_}
+use Rattle.header.proofs.Lies.{found, built}
+use borrow.Author.Needs.{needs}
+use Rattle.header.proofs.fill_header.Statement.{statement}
+use Rattle.header.proofs.fill_header.Tie as tie
+use Rattle.header.proofs.fill_header.Reads as reads
+use Rattle.header.proofs.fill_header.Lts as lts
+use Rattle.lists.proofs.fill_reads.Reads as fill-reads-reads
+use Rattle.lists.proofs.fill_segments.Reads as fill-segments-reads
+use Rattle.lists.proofs.fill_writes.Reads as fill-writes-reads
+use Rattle.wire.proofs.word_at.Reads as word-at-reads
+
+-- src/lib.rt:239:38
+sub-fill-reads : tie.Need-sub-fill-reads
+sub-fill-reads c =
+    let s = now (c .before .args .s) in
+    let shape = c .before .args .shape in
+    let f = found s shape (c .before .pre) in
+    let n = ap (λ (x : Shape). x .reads) (f .shape-is) in
+    let m = ap (λ (x : Shape). x .chunks) (f .shape-is) in
+    let r = ap (λ (x : Shape). x .replies) (f .shape-is) in
+    let e = ap (λ (x : Shape). x .end) (f .shape-is) in
+    omega (arith, f .lies .reads-long)
+
+-- src/lib.rt:239:38
+part-fill-reads-start : tie.Need-part-fill-reads-start
+part-fill-reads-start c =
+    let s = now (c .before .args .s) in
+    let shape = c .before .args .shape in
+    let f = found s shape (c .before .pre) in
+    let n = ap (λ (x : Shape). x .reads) (f .shape-is) in
+    let m = ap (λ (x : Shape). x .chunks) (f .shape-is) in
+    let r = ap (λ (x : Shape). x .replies) (f .shape-is) in
+    let e = ap (λ (x : Shape). x .end) (f .shape-is) in
+    omega (arith, f .lies .reads-long)
+
+-- src/lib.rt:239:38
+part-fill-reads-end : tie.Need-part-fill-reads-end
+part-fill-reads-end c = search needs
+
+-- src/lib.rt:239:9
+fill-reads-requires : tie.Need-fill-reads-requires
+fill-reads-requires c κs =
+    let s = now (c .before .before .args .s) in
+    let shape = c .before .before .args .shape in
+    let f = found s shape (c .before .before .pre) in
+    let n = ap (λ (x : Shape). x .reads) (f .shape-is) in
+    let m = ap (λ (x : Shape). x .chunks) (f .shape-is) in
+    let r = ap (λ (x : Shape). x .replies) (f .shape-is) in
+    let e = ap (λ (x : Shape). x .end) (f .shape-is) in
+    let size = length-drop 16 s in
+    (omega (arith, f .lies .reads-few), rw part-from (omega (arith, f .lies .reads-long)))
+
+-- src/lib.rt:242:16
+cast-t20 : tie.Need-cast-t20
+cast-t20 c =
+    let s = now (c .before .before .before .args .s) in
+    let shape = c .before .before .before .args .shape in
+    let f = found s shape (c .before .before .before .pre) in
+    let n = ap (λ (x : Shape). x .reads) (f .shape-is) in
+    let m = ap (λ (x : Shape). x .chunks) (f .shape-is) in
+    let r = ap (λ (x : Shape). x .replies) (f .shape-is) in
+    let e = ap (λ (x : Shape). x .end) (f .shape-is) in
+    omega (arith, f .lies .reads-few)
+
+-- src/lib.rt:244:18
+mul-w : tie.Need-mul-w
+mul-w c =
+    let s = now (c .before .before .before .args .s) in
+    let shape = c .before .before .before .args .shape in
+    let f = found s shape (c .before .before .before .pre) in
+    let n = ap (λ (x : Shape). x .reads) (f .shape-is) in
+    let m = ap (λ (x : Shape). x .chunks) (f .shape-is) in
+    let r = ap (λ (x : Shape). x .replies) (f .shape-is) in
+    let e = ap (λ (x : Shape). x .end) (f .shape-is) in
+    omega (arith, f .lies .reads-few)
+
+-- src/lib.rt:244:13
+add-w : tie.Need-add-w
+add-w c =
+    let s = now (c .before .before .before .args .s) in
+    let shape = c .before .before .before .args .shape in
+    let f = found s shape (c .before .before .before .pre) in
+    let n = ap (λ (x : Shape). x .reads) (f .shape-is) in
+    let m = ap (λ (x : Shape). x .chunks) (f .shape-is) in
+    let r = ap (λ (x : Shape). x .replies) (f .shape-is) in
+    let e = ap (λ (x : Shape). x .end) (f .shape-is) in
+    omega (arith, f .lies .reads-few)
+
+-- src/lib.rt:248:17
+cast-t20-2 : tie.Need-cast-t20-2
+cast-t20-2 c =
+    let s = now (c .before .before .before .args .s) in
+    let shape = c .before .before .before .args .shape in
+    let f = found s shape (c .before .before .before .pre) in
+    let n = ap (λ (x : Shape). x .reads) (f .shape-is) in
+    let m = ap (λ (x : Shape). x .chunks) (f .shape-is) in
+    let r = ap (λ (x : Shape). x .replies) (f .shape-is) in
+    let e = ap (λ (x : Shape). x .end) (f .shape-is) in
+    omega (arith, f .lies .writes-few)
+
+-- src/lib.rt:250:37
+sub-fill-writes : tie.Need-sub-fill-writes
+sub-fill-writes c =
+    let s = now (c .before .before .before .args .s) in
+    let shape = c .before .before .before .args .shape in
+    let f = found s shape (c .before .before .before .pre) in
+    let n = ap (λ (x : Shape). x .reads) (f .shape-is) in
+    let m = ap (λ (x : Shape). x .chunks) (f .shape-is) in
+    let r = ap (λ (x : Shape). x .replies) (f .shape-is) in
+    let e = ap (λ (x : Shape). x .end) (f .shape-is) in
+    omega (arith, f .lies .reads-long)
+
+-- src/lib.rt:250:37
+part-fill-writes-start : tie.Need-part-fill-writes-start
+part-fill-writes-start c =
+    let s = now (c .before .before .before .args .s) in
+    let shape = c .before .before .before .args .shape in
+    let f = found s shape (c .before .before .before .pre) in
+    let n = ap (λ (x : Shape). x .reads) (f .shape-is) in
+    let m = ap (λ (x : Shape). x .chunks) (f .shape-is) in
+    let r = ap (λ (x : Shape). x .replies) (f .shape-is) in
+    let e = ap (λ (x : Shape). x .end) (f .shape-is) in
+    omega (arith, f .lies .reads-long)
+
+-- src/lib.rt:250:37
+part-fill-writes-end : tie.Need-part-fill-writes-end
+part-fill-writes-end c = search needs
+
+-- src/lib.rt:250:9
+fill-writes-requires : tie.Need-fill-writes-requires
+fill-writes-requires c κs =
+    let s = now (c .before .before .before .before .args .s) in
+    let shape = c .before .before .before .before .args .shape in
+    let f = found s shape (c .before .before .before .before .pre) in
+    let n = ap (λ (x : Shape). x .reads) (f .shape-is) in
+    let m = ap (λ (x : Shape). x .chunks) (f .shape-is) in
+    let r = ap (λ (x : Shape). x .replies) (f .shape-is) in
+    let e = ap (λ (x : Shape). x .end) (f .shape-is) in
+    (omega (arith, f .lies .writes-few), omega arith, rw part-from (chunks-fit s shape f))
+
+-- src/lib.rt:252:45
+mul-fill-segments : tie.Need-mul-fill-segments
+mul-fill-segments c =
+    let s = now (c .before .before .before .before .before .args .s) in
+    let shape = c .before .before .before .before .before .args .shape in
+    let f = found s shape (c .before .before .before .before .before .pre) in
+    let n = ap (λ (x : Shape). x .reads) (f .shape-is) in
+    let m = ap (λ (x : Shape). x .chunks) (f .shape-is) in
+    let r = ap (λ (x : Shape). x .replies) (f .shape-is) in
+    let e = ap (λ (x : Shape). x .end) (f .shape-is) in
+    omega (arith, f .lies .reply .few)
+
+-- src/lib.rt:252:39
+sub-fill-segments : tie.Need-sub-fill-segments
+sub-fill-segments c =
+    let s = now (c .before .before .before .before .before .args .s) in
+    let shape = c .before .before .before .before .before .args .shape in
+    let f = found s shape (c .before .before .before .before .before .pre) in
+    let n = ap (λ (x : Shape). x .reads) (f .shape-is) in
+    let m = ap (λ (x : Shape). x .chunks) (f .shape-is) in
+    let r = ap (λ (x : Shape). x .replies) (f .shape-is) in
+    let e = ap (λ (x : Shape). x .end) (f .shape-is) in
+    omega (arith, f .lies .reply .long)
+
+-- src/lib.rt:252:9
+fill-segments-requires : tie.Need-fill-segments-requires
+fill-segments-requires c κs =
+    let s = now (c .before .before .before .before .before .args .s) in
+    let shape = c .before .before .before .before .before .args .shape in
+    let f = found s shape (c .before .before .before .before .before .pre) in
+    let n = ap (λ (x : Shape). x .reads) (f .shape-is) in
+    let m = ap (λ (x : Shape). x .chunks) (f .shape-is) in
+    let r = ap (λ (x : Shape). x .replies) (f .shape-is) in
+    let e = ap (λ (x : Shape). x .end) (f .shape-is) in
+    (omega (arith, f .lies .reply .long, f .lies .reply .short), omega (arith, f .lies .reply .few))
+
+-- src/lib.rt:255:16
+cast-t20-3 : tie.Need-cast-t20-3
+cast-t20-3 c =
+    let s = now (c .before .before .before .before .before .before .args .s) in
+    let shape = c .before .before .before .before .before .before .args .shape in
+    let f = found s shape (c .before .before .before .before .before .before .pre) in
+    let n = ap (λ (x : Shape). x .reads) (f .shape-is) in
+    let m = ap (λ (x : Shape). x .chunks) (f .shape-is) in
+    let r = ap (λ (x : Shape). x .replies) (f .shape-is) in
+    let e = ap (λ (x : Shape). x .end) (f .shape-is) in
+    omega (arith, f .lies .reply .few)
+
+-- src/lib.rt:263:14
+word-at-requires : tie.Need-word-at-requires
+word-at-requires c κs =
+    let s = now (c .before .before .before .before .before .before .args .s) in
+    let shape = c .before .before .before .before .before .before .args .shape in
+    let f = found s shape (c .before .before .before .before .before .before .pre) in
+    let n = ap (λ (x : Shape). x .reads) (f .shape-is) in
+    let m = ap (λ (x : Shape). x .chunks) (f .shape-is) in
+    let r = ap (λ (x : Shape). x .replies) (f .shape-is) in
+    let e = ap (λ (x : Shape). x .end) (f .shape-is) in
+    omega (arith, f .lies .reads-long)
+
+-- src/lib.rt:264:17
+word-at-requires-2 : tie.Need-word-at-requires-2
+word-at-requires-2 c κs =
+    let s = now (c .before .before .before .before .before .before .before .args .s) in
+    let shape = c .before .before .before .before .before .before .before .args .shape in
+    let f = found s shape (c .before .before .before .before .before .before .before .pre) in
+    let n = ap (λ (x : Shape). x .reads) (f .shape-is) in
+    let m = ap (λ (x : Shape). x .chunks) (f .shape-is) in
+    let r = ap (λ (x : Shape). x .replies) (f .shape-is) in
+    let e = ap (λ (x : Shape). x .end) (f .shape-is) in
+    omega (arith, f .lies .reads-long)
+
+-- src/lib.rt:226:1
+returns : tie.Need-returns
+returns c =
+    let s = now (c .before .before .before .before .before .before .before .before .args .s) in
+    let shape = c .before .before .before .before .before .before .before .before .args .shape in
+    let f = found s shape (c .before .before .before .before .before .before .before .before .pre) in
+    let n = ap (λ (x : Shape). x .reads) (f .shape-is) in
+    let m = ap (λ (x : Shape). x .chunks) (f .shape-is) in
+    let r = ap (λ (x : Shape). x .replies) (f .shape-is) in
+    let e = ap (λ (x : Shape). x .end) (f .shape-is) in
+    let reads = c .before .before .before .before .before .fill-reads .ensures ∙ ap (λ (u : List ℕ). stored zeroReads 0 (each 24 markedSegmentAt (shape .reads) u)) (part-from 16 s) in
+    let writes = c .before .before .before .fill-writes .ensures ∙ ap (λ (u : List ℕ). withChunks 0 0 (record { segments = replicate 16 zeroSegment; counts = replicate 4 0; chunks = shape .chunks }) (chunksAt (shape .chunks) u)) (part-from (20 + shape .reads * 24) s) in
+    built-by s shape f (c .before .before .before .before .before .fill-reads .result) (c .before .before .before .fill-writes .result) (c .before .before .fill-segments .result) (c .before .word-at .result) (c .word-at2 .result) reads writes (c .before .before .fill-segments .ensures) (c .before .word-at .ensures) (c .word-at2 .ensures)
+
+pub fill-header-spec : {M : Type 1} → statement M
+fill-header-spec =
+    tie.close
+    (tie.spec
+    sub-fill-reads
+    part-fill-reads-start
+    part-fill-reads-end
+    fill-reads-requires
+    cast-t20
+    mul-w
+    add-w
+    cast-t20-2
+    sub-fill-writes
+    part-fill-writes-start
+    part-fill-writes-end
+    fill-writes-requires
+    mul-fill-segments
+    sub-fill-segments
+    fill-segments-requires
+    cast-t20-3
+    word-at-requires
+    word-at-requires-2
+    returns)

@@ -1,0 +1,368 @@
+-- Laws about the lists of a header: what a step says of the list, and what a list that was read says of the bytes.
+-- Assumes nothing.
+use mathlib.Core.Path.{_≡_, refl, sym, ap, _∙_}
+use mathlib.Core.Bool.{Bool, true, false, cond}
+use mathlib.Core.List.{List, [], _∷_, _++_, map}
+use Prim.Native.Nat.{ℕ, zero, suc, _+_, _-_, _*_, _%_, _≤_, _<_}
+use native.Mathlib.Nat.{add-zero}
+use native.Mathlib.Omega.{arith}
+use borrow.Author.Tests.{leb-true, eqb-true, eqb-false, ne-eqb, le-leb, lt-leb}
+use lib.ListN.{length, drop, set, length-drop}
+use lib.Seq.{drop-drop}
+use lib.Dec.{leb, eqb, eqb·suc-zero}
+use Rattle.wire.specs.Wire.{wordAt, wordOf, segmentAt, readSegmentAt, stored, joined}
+use Rattle.wire.specs.declared.Word.{Word}
+use Rattle.wire.specs.declared.Word.the-variants as word
+use Rattle.wire.specs.declared.Segment.{Segment}
+use Rattle.wire.specs.declared.ReadSegment.{ReadSegment}
+use Rattle.lists.specs.Parsed.{Parsed, refused, done, andThen, require, prepend, each}
+use Rattle.lists.specs.Lists.{markerWord, markerOf, afterMarker, optional, readEntry, readList, segments, afterCount, counted, writeList, replyChunk}
+use Rattle.lists.specs.Steps.{entryStep, readMarked, readStep, countStep, chunkMarked, chunkStep, listWalk, chunksAt, ChunksFit, withChunks}
+use Rattle.lists.specs.declared.Marker.{Marker}
+use Rattle.lists.specs.declared.Marker.the-variants as marker
+use Rattle.lists.specs.declared.ReadStep.{ReadStep}
+use Rattle.lists.specs.declared.ReadStep.the-variants as read
+use Rattle.lists.specs.declared.ChunkStep.{ChunkStep}
+use Rattle.lists.specs.declared.ChunkStep.the-variants as chunk
+use Rattle.lists.specs.declared.WriteList.{WriteList}
+use Rattle.lists.specs.declared.ListWalk.{ListWalk}
+use Rattle.lists.specs.declared.ListWalk.the-variants as walk
+use Rattle.wire.proofs.Laws.{word-drop, read-segment-drop, stored-append}
+use Rattle.lists.proofs.Items.{length-each, store-cons}
+
+-- A refusal is no value.
+pub never : {A : Type 0} {n : ℕ} {a : A} {t : List ℕ} → refused n ≡ done a t → ⊥
+never e = let z : _≡_ {A = ℕ} 0 1 = cc in omega arith
+
+-- What was required of a value holds.
+pub required : {A : Type 0} (b : Bool) (n : ℕ) (p : Parsed A) {a : A} {t : List ℕ} → require b n p ≡ done a t → (b ≡ true) × (p ≡ done a t)
+required true n p e = (refl, e)
+required false n p e = absurd (never e)
+
+-- A value that was read in two steps.
+pub record Both {A B : Type 0} (p : Parsed A) (next : A → List ℕ → Parsed B) (b : B) (u : List ℕ) : Type 0 where
+  pub first : A
+  pub behind : List ℕ
+  pub is : p ≡ done first behind
+  pub then : next first behind ≡ done b u
+
+pub both : {A B : Type 0} (p : Parsed A) {next : A → List ℕ → Parsed B} {b : B} {u : List ℕ} → andThen p next ≡ done b u → Both p next b u
+both (refused n) e = absurd (never e)
+both (done a t) e = record { first = a; behind = t; is = refl; then = e }
+
+-- A word that is there has its four bytes.
+pub word-room : (s : List ℕ) (m : ℕ) → wordOf s ≡ word.Value m → 4 ≤ length s
+unfolding wordOf
+word-room s m e = go (leb 4 (length s)) refl e
+  where
+    go : (b : Bool) → leb 4 (length s) ≡ b → cond b (word.Value (wordAt s 0)) (word.Refused 5) ≡ word.Value m → 4 ≤ length s
+    go true h q = leb-true 4 (length s) h
+    go false h q = absurd (let z : _≡_ {A = ℕ} 0 1 = cc in omega arith)
+
+pub word-is : (s : List ℕ) (m : ℕ) → wordOf s ≡ word.Value m → m ≡ wordAt s 0
+unfolding wordOf
+word-is s m e = go (leb 4 (length s)) e
+  where
+    go : (b : Bool) → cond b (word.Value (wordAt s 0)) (word.Refused 5) ≡ word.Value m → m ≡ wordAt s 0
+    go true q = cc
+    go false q = absurd (let z : _≡_ {A = ℕ} 0 1 = cc in omega arith)
+
+-- A marker that is there has its four bytes.
+pub marker-room : (s : List ℕ) → ((n : ℕ) → markerOf s ≡ marker.Refused n → ⊥) → 4 ≤ length s
+unfolding markerOf
+marker-room s there = go (wordOf s) refl
+  where
+    go : (w : Word) → wordOf s ≡ w → 4 ≤ length s
+    go (word.Refused n) e = absurd (there n (ap markerWord e))
+    go (word.Value m) e = word-room s m e
+
+pub end-room : (s : List ℕ) → markerOf s ≡ marker.End → 4 ≤ length s
+end-room s e = marker-room s (λ n q. let z : _≡_ {A = ℕ} 0 1 = cc in omega arith)
+
+pub entry-room : (s : List ℕ) → markerOf s ≡ marker.Entry → 4 ≤ length s
+entry-room s e = marker-room s (λ n q. let z : _≡_ {A = ℕ} 0 1 = cc in omega arith)
+
+-- An entry that was read has its 20 bytes.
+pub record Entry (last : ℕ) (s : List ℕ) (x : ReadSegment) (u : List ℕ) : Type 0 where
+  pub long : 20 ≤ length s
+  pub is : x ≡ readSegmentAt s 0
+  pub behind : u ≡ drop 20 s
+  pub aligned : wordAt s 0 % 4 ≡ 0
+  pub rises : last ≤ wordAt s 0
+
+pub entry-of : (last : ℕ) (s : List ℕ) (x : ReadSegment) (u : List ℕ) → readEntry last s ≡ done x u → Entry last s x u
+unfolding readEntry
+entry-of last s x u e =
+    let a = required (leb 20 (length s)) _ _ e in
+    let b = required (eqb (wordAt s 0 % 4) 0) _ _ (a .1) in
+    let c = required (leb last (wordAt s 0)) _ _ (b .1) in
+    let d : done (readSegmentAt s 0) (drop 20 s) ≡ done x u = c .1 in
+    record { long = leb-true 20 (length s) (a .0); is = cc; behind = cc; aligned = eqb-true (wordAt s 0 % 4) 0 (b .0); rises = leb-true last (wordAt s 0) (c .0) }
+
+-- The three things that can stand at the front of a read list.
+pub data ReadFront (room last : ℕ) (s : List ℕ) : Type 0 where
+  ends : readStep room last s ≡ read.End → 4 ≤ length s → readList room last s ≡ done [] (drop 4 s) → ReadFront room last s
+  faulty : (n : ℕ) → readStep room last s ≡ read.Refused n → readList room last s ≡ refused n → ReadFront room last s
+  goes : (x : ReadSegment) → readStep room last s ≡ read.Entry (x .position) → 0 < room → 24 ≤ length s → x ≡ readSegmentAt s 4 →
+      readList room last s ≡ prepend x (readList (room - 1) (x .position) (drop 24 s)) → ReadFront room last s
+
+pub read-front : (room last : ℕ) (s : List ℕ) → ReadFront room last s
+unfolding readStep readList
+read-front zero last s = go (markerOf s) refl
+  where
+    go : (m : Marker) → markerOf s ≡ m → ReadFront zero last s
+    go (marker.Refused n) e = faulty n (rw e) (rw e)
+    go marker.End e = ends (rw e) (end-room s e) (rw e)
+    go marker.Entry e = faulty 7 (rw e) (rw e)
+read-front (suc room) last s = go (markerOf s) refl
+  where
+    entered : markerOf s ≡ marker.Entry → (p : Parsed ReadSegment) → readEntry last (drop 4 s) ≡ p → ReadFront (suc room) last s
+    entered e (refused n) q = faulty n (rw (e, eqb·suc-zero room, q)) (rw (e, q))
+    entered e (done x u) q =
+        let h = entry-of last (drop 4 s) x u q in
+        let four = entry-room s e in
+        let is : x ≡ readSegmentAt s 4 = h .is ∙ read-segment-drop 4 0 s in
+        let rest : u ≡ drop 24 s = h .behind ∙ drop-drop 20 4 s in
+        let room-is : suc room - 1 ≡ room = omega arith in
+        goes x (rw (e, eqb·suc-zero room, q)) (omega arith) (omega (arith, h .long, length-drop 4 s)) is (rw (e, q, rest, room-is))
+    go : (m : Marker) → markerOf s ≡ m → ReadFront (suc room) last s
+    go (marker.Refused n) e = faulty n (rw e) (rw e)
+    go marker.End e = ends (rw e) (end-room s e) (rw e)
+    go marker.Entry e = entered e (readEntry last (drop 4 s)) refl
+
+-- A counted run that was read: its count word, and its segments behind it.
+pub record Counted (left : ℕ) (s : List ℕ) (c : List Segment) (u : List ℕ) : Type 0 where
+  pub long : 4 + wordAt s 0 * 16 ≤ length s
+  pub few : wordAt s 0 ≤ left
+  pub is : c ≡ each 16 (λ t. segmentAt t 0) (wordAt s 0) (drop 4 s)
+  pub behind : u ≡ drop (4 + wordAt s 0 * 16) s
+
+pub counted-of : (left : ℕ) (s : List ℕ) (c : List Segment) (u : List ℕ) → counted left s ≡ done c u → Counted left s c u
+unfolding counted segments
+counted-of left s c u e = go (wordOf s) refl e
+  where
+    go : (w : Word) → wordOf s ≡ w → afterCount w left (drop 4 s) ≡ done c u → Counted left s c u
+    go (word.Refused n) h q = absurd (never q)
+    go (word.Value n) h q =
+        let four = word-room s n h in
+        let value = word-is s n h in
+        let a = required (leb n left) _ _ q in
+        let b = required (leb (n * 16) (length (drop 4 s))) _ _ (a .1) in
+        let few : n ≤ left = leb-true n left (a .0) in
+        let long : n * 16 ≤ length (drop 4 s) = leb-true (n * 16) (length (drop 4 s)) (b .0) in
+        let d : done (each 16 (λ t. segmentAt t 0) n (drop 4 s)) (drop (n * 16) (drop 4 s)) ≡ done c u = b .1 in
+        let is : c ≡ each 16 (λ t. segmentAt t 0) n (drop 4 s) = cc in
+        let behind : u ≡ drop (n * 16) (drop 4 s) = cc in
+        record { long = omega (arith, length-drop 4 s); few = omega arith; is = is ∙ rw value; behind = behind ∙ rw (drop-drop (n * 16) 4 s, value) }
+
+-- What can stand at the front of a list of chunks.
+pub data ChunkFront (room left : ℕ) (s : List ℕ) : Type 0 where
+  ends : chunkStep room left s ≡ chunk.End → markerOf s ≡ marker.End → ChunkFront room left s
+  unmarked : (n : ℕ) → chunkStep room left s ≡ chunk.Refused n → markerOf s ≡ marker.Refused n → ChunkFront room left s
+  full : chunkStep room left s ≡ chunk.Refused 7 → markerOf s ≡ marker.Entry → room ≡ 0 → ChunkFront room left s
+  uncounted : (n : ℕ) → chunkStep room left s ≡ chunk.Refused n → markerOf s ≡ marker.Entry → 0 < room → counted left (drop 4 s) ≡ refused n → ChunkFront room left s
+  goes : (c : List Segment) (u : List ℕ) → chunkStep room left s ≡ chunk.Chunk (length c) → markerOf s ≡ marker.Entry → 0 < room → counted left (drop 4 s) ≡ done c u → ChunkFront room left s
+
+pub chunk-front : (room left : ℕ) (s : List ℕ) → ChunkFront room left s
+unfolding chunkStep
+chunk-front room left s = go (markerOf s) refl
+  where
+    counting : markerOf s ≡ marker.Entry → 0 < room → (p : Parsed (List Segment)) → counted left (drop 4 s) ≡ p → ChunkFront room left s
+    counting e h (refused n) q = uncounted n (rw (e, ne-eqb room 0 (omega arith), q)) e h q
+    counting e h (done c u) q = goes c u (rw (e, ne-eqb room 0 (omega arith), q)) e h q
+    entered : markerOf s ≡ marker.Entry → (b : Bool) → eqb room 0 ≡ b → ChunkFront room left s
+    entered e true q = full (rw (e, q)) e (eqb-true room 0 q)
+    entered e false q =
+        let ne = eqb-false room 0 q in
+        counting e (omega arith) (counted left (drop 4 s)) refl
+    go : (m : Marker) → markerOf s ≡ m → ChunkFront room left s
+    go (marker.Refused n) e = unmarked n (rw e) e
+    go marker.End e = ends (rw e) e
+    go marker.Entry e = entered e (eqb room 0) refl
+
+-- A chunk that was read: its count, and where it ends.
+pub record Chunk (left : ℕ) (s : List ℕ) (c : List Segment) (u : List ℕ) : Type 0 where
+  pub many : length c ≡ wordAt s 4
+  pub few : length c ≤ left
+  pub long : 8 + length c * 16 ≤ length s
+  pub is : c ≡ each 16 (λ t. segmentAt t 0) (length c) (drop 8 s)
+  pub behind : u ≡ drop (8 + length c * 16) s
+
+pub chunk-of : (left : ℕ) (s : List ℕ) (c : List Segment) (u : List ℕ) → markerOf s ≡ marker.Entry → counted left (drop 4 s) ≡ done c u → Chunk left s c u
+chunk-of left s c u m e =
+    let h = counted-of left (drop 4 s) c u e in
+    let four = entry-room s m in
+    let w : wordAt (drop 4 s) 0 ≡ wordAt s 4 = word-drop 4 0 s in
+    let n : length c ≡ wordAt (drop 4 s) 0 = ap length (h .is) ∙ length-each 16 (λ t. segmentAt t 0) (wordAt (drop 4 s) 0) (drop 4 (drop 4 s)) in
+    let is : c ≡ each 16 (λ t. segmentAt t 0) (length c) (drop 8 s) = h .is ∙ rw (← n, drop-drop 4 4 s) in
+    let long : 4 + length c * 16 ≤ length (drop 4 s) = rw n (h .long) in
+    let eight : 4 + (4 + length c * 16) ≡ 8 + length c * 16 = omega arith in
+    record {
+      many = n ∙ w;
+      few = rw n (h .few);
+      long = omega (arith, length-drop 4 s);
+      is = is;
+      behind = h .behind ∙ rw (← n, drop-drop (4 + length c * 16) 4 s, eight)
+    }
+
+-- One more entry in front is one more entry before the rest.
+pub walk-prepend : {A : Type 0} (before : ℕ) (x : A) (p : Parsed (List A)) → listWalk (before + 1) p ≡ listWalk before (prepend x p)
+unfolding listWalk
+walk-prepend before x (refused n) = refl
+walk-prepend before x (done l t) = let e : before + 1 + length l ≡ before + suc (length l) = omega arith in rw e
+
+-- What a checking of the read list answers, by its step.
+module _ (room last : ℕ) (s : List ℕ) where
+  pub read-end : readStep room last s ≡ read.End → (4 ≤ length s) × ((before : ℕ) → walk.Done before (length s - 4) ≡ listWalk before (readList room last s))
+  unfolding listWalk
+  read-end e = go (read-front room last s)
+    where
+      go : ReadFront room last s → (4 ≤ length s) × ((before : ℕ) → walk.Done before (length s - 4) ≡ listWalk before (readList room last s))
+      go (ends f long is) = (long, λ before. rw (is, add-zero, length-drop))
+      go (faulty n f is) = absurd (let z : _≡_ {A = ℕ} 0 1 = cc in omega arith)
+      go (goes x f pos long at4 is) = absurd (let z : _≡_ {A = ℕ} 0 1 = cc in omega arith)
+
+  pub read-refused : (n : ℕ) → readStep room last s ≡ read.Refused n → (before : ℕ) → walk.Refused n ≡ listWalk before (readList room last s)
+  unfolding listWalk
+  read-refused n e before = go (read-front room last s)
+    where
+      go : ReadFront room last s → walk.Refused n ≡ listWalk before (readList room last s)
+      go (ends f long is) = absurd (let z : _≡_ {A = ℕ} 0 1 = cc in omega arith)
+      go (faulty m f is) = let same : n ≡ m = cc in rw (is, same)
+      go (goes x f pos long at4 is) = absurd (let z : _≡_ {A = ℕ} 0 1 = cc in omega arith)
+
+  pub record Further (p : ℕ) : Type 0 where
+    pub room-left : 0 < room
+    pub long : 24 ≤ length s
+    pub rest : (before : ℕ) → listWalk (before + 1) (readList (room - 1) p (drop 24 s)) ≡ listWalk before (readList room last s)
+
+  pub read-further : (p : ℕ) → readStep room last s ≡ read.Entry p → Further p
+  read-further p e = go (read-front room last s)
+    where
+      go : ReadFront room last s → Further p
+      go (ends f long is) = absurd (let z : _≡_ {A = ℕ} 0 1 = cc in omega arith)
+      go (faulty m f is) = absurd (let z : _≡_ {A = ℕ} 0 1 = cc in omega arith)
+      go (goes x f pos long at4 is) =
+          let same : p ≡ x .position = cc in
+          record { room-left = pos; long = long; rest = λ before. rw (is, same) (walk-prepend before x _) }
+
+-- The write list, by what stands at its front.
+module _ (left : ℕ) (s : List ℕ) where
+  pub writes-end : (room : ℕ) → markerOf s ≡ marker.End → writeList room left s ≡ done [] (drop 4 s)
+  unfolding writeList
+  writes-end zero e = rw e
+  writes-end (suc room) e = rw e
+
+  pub writes-unmarked : (room n : ℕ) → markerOf s ≡ marker.Refused n → writeList room left s ≡ refused n
+  unfolding writeList
+  writes-unmarked zero n e = rw e
+  writes-unmarked (suc room) n e = rw e
+
+  pub writes-full : (room : ℕ) → room ≡ 0 → markerOf s ≡ marker.Entry → writeList room left s ≡ refused 7
+  unfolding writeList
+  writes-full zero z e = rw e
+  writes-full (suc room) z e = absurd (omega arith)
+
+  pub writes-uncounted : (room n : ℕ) → 0 < room → markerOf s ≡ marker.Entry → counted left (drop 4 s) ≡ refused n → writeList room left s ≡ refused n
+  unfolding writeList
+  writes-uncounted zero n h e q = absurd (omega arith)
+  writes-uncounted (suc room) n h e q = rw (e, q)
+
+  pub writes-chunk : (room : ℕ) (c : List Segment) (u : List ℕ) → 0 < room → markerOf s ≡ marker.Entry → counted left (drop 4 s) ≡ done c u →
+      writeList room left s ≡ prepend c (writeList (room - 1) (left - length c) u)
+  unfolding writeList
+  writes-chunk zero c u h e q = absurd (omega arith)
+  writes-chunk (suc room) c u h e q = let r : suc room - 1 ≡ room = omega arith in rw (e, q, r)
+
+-- What a checking of the write list answers, by its step.
+module _ (room left : ℕ) (s : List ℕ) where
+  pub write-end : chunkStep room left s ≡ chunk.End → (4 ≤ length s) × ((before : ℕ) → walk.Done before (length s - 4) ≡ listWalk before (writeList room left s))
+  unfolding listWalk
+  write-end e = go (chunk-front room left s)
+    where
+      go : ChunkFront room left s → (4 ≤ length s) × ((before : ℕ) → walk.Done before (length s - 4) ≡ listWalk before (writeList room left s))
+      go (ends f m) = (end-room s m, λ before. rw (writes-end left s room m, add-zero, length-drop))
+      go (unmarked n f m) = absurd (let z : _≡_ {A = ℕ} 0 1 = cc in omega arith)
+      go (full f m h) = absurd (let z : _≡_ {A = ℕ} 0 1 = cc in omega arith)
+      go (uncounted n f m h q) = absurd (let z : _≡_ {A = ℕ} 0 1 = cc in omega arith)
+      go (goes c u f m h q) = absurd (let z : _≡_ {A = ℕ} 0 1 = cc in omega arith)
+
+  pub write-refused : (n : ℕ) → chunkStep room left s ≡ chunk.Refused n → (before : ℕ) → walk.Refused n ≡ listWalk before (writeList room left s)
+  unfolding listWalk
+  write-refused n e before = go (chunk-front room left s)
+    where
+      go : ChunkFront room left s → walk.Refused n ≡ listWalk before (writeList room left s)
+      go (ends f m) = absurd (let z : _≡_ {A = ℕ} 0 1 = cc in omega arith)
+      go (unmarked k f m) = let same : n ≡ k = cc in rw (writes-unmarked left s room k m, same)
+      go (full f m h) = let same : n ≡ 7 = cc in rw (writes-full left s room h m, same)
+      go (uncounted k f m h q) = let same : n ≡ k = cc in rw (writes-uncounted left s room k h m q, same)
+      go (goes c u f m h q) = absurd (let z : _≡_ {A = ℕ} 0 1 = cc in omega arith)
+
+  pub record FurtherChunk (n : ℕ) : Type 0 where
+    pub room-left : 0 < room
+    pub few : n ≤ left
+    pub long : 8 + n * 16 ≤ length s
+    pub rest : (before : ℕ) → listWalk (before + 1) (writeList (room - 1) (left - n) (drop (8 + n * 16) s)) ≡ listWalk before (writeList room left s)
+
+  pub write-further : (n : ℕ) → chunkStep room left s ≡ chunk.Chunk n → FurtherChunk n
+  write-further n e = go (chunk-front room left s)
+    where
+      go : ChunkFront room left s → FurtherChunk n
+      go (ends f m) = absurd (let z : _≡_ {A = ℕ} 0 1 = cc in omega arith)
+      go (unmarked k f m) = absurd (let z : _≡_ {A = ℕ} 0 1 = cc in omega arith)
+      go (full f m h) = absurd (let z : _≡_ {A = ℕ} 0 1 = cc in omega arith)
+      go (uncounted k f m h q) = absurd (let z : _≡_ {A = ℕ} 0 1 = cc in omega arith)
+      go (goes c u f m h q) =
+          let same : n ≡ length c = cc in
+          let k = chunk-of left s c u m q in
+          record {
+            room-left = h;
+            few = rw same (k .few);
+            long = rw same (k .long);
+            rest = λ before. rw (same, writes-chunk left s room c u h m q, ← (k .behind)) (walk-prepend before c _)
+          }
+
+-- What a count answers once its word was read.
+module _ (left : ℕ) (s : List ℕ) (n : ℕ) (value : wordOf s ≡ word.Value n) (few : n ≤ left) where
+  pub count-short : length s < 4 + n * 16 → countStep (counted left s) ≡ chunk.Refused 5
+  unfolding counted segments
+  count-short h =
+      let four = word-room s n value in
+      let short : length (drop 4 s) < n * 16 = omega (arith, length-drop 4 s) in
+      rw (value, le-leb n left few, lt-leb (n * 16) (length (drop 4 s)) short)
+
+  pub count-chunk : 4 + n * 16 ≤ length s → countStep (counted left s) ≡ chunk.Chunk n
+  unfolding counted segments
+  count-chunk h =
+      let long : n * 16 ≤ length (drop 4 s) = omega (arith, length-drop 4 s) in
+      rw (value, le-leb n left few, le-leb (n * 16) (length (drop 4 s)) long, length-each 16 (λ t. segmentAt t 0) n (drop 4 s))
+
+-- The first of n chunks, and the rest.
+module _ (n : ℕ) (some-left : n ≡ 0 → ⊥) (s : List ℕ) where
+  pub chunks-next : chunksAt n s ≡ each 16 (λ t. segmentAt t 0) (wordAt s 4) (drop 8 s) ∷ chunksAt (n - 1) (drop (8 + wordAt s 4 * 16) s)
+  unfolding chunksAt
+  chunks-next = go n some-left
+    where
+      go : (m : ℕ) → (m ≡ 0 → ⊥) → chunksAt m s ≡ each 16 (λ t. segmentAt t 0) (wordAt s 4) (drop 8 s) ∷ chunksAt (m - 1) (drop (8 + wordAt s 4 * 16) s)
+      go zero h = absurd (h refl)
+      go (suc m) h = let e : suc m - 1 ≡ m = omega arith in rw e
+
+  pub fit-next : (left : ℕ) → ChunksFit n left s → (8 + wordAt s 4 * 16 ≤ length s) × (wordAt s 4 ≤ left) × ChunksFit (n - 1) (left - wordAt s 4) (drop (8 + wordAt s 4 * 16) s)
+  unfolding ChunksFit
+  fit-next left f = go n some-left f
+    where
+      go : (m : ℕ) → (m ≡ 0 → ⊥) → ChunksFit m left s → (8 + wordAt s 4 * 16 ≤ length s) × (wordAt s 4 ≤ left) × ChunksFit (m - 1) (left - wordAt s 4) (drop (8 + wordAt s 4 * 16) s)
+      go zero h f = absurd (h refl)
+      go (suc m) h f = let e : suc m - 1 ≡ m = omega arith in rw e f
+
+-- A write list with no chunks stored, and with one more.
+pub with-none : (before used : ℕ) (w : WriteList) (s : List ℕ) → w ≡ withChunks before used w (chunksAt 0 s)
+unfolding withChunks stored joined chunksAt
+with-none before used w s = refl
+
+pub with-next : (before used d : ℕ) (w : WriteList) (c filled : List Segment) (cs : List (List Segment)) → d ≡ length c → filled ≡ stored (w .segments) used c →
+    withChunks (before + 1) (used + d) (record { segments = filled; counts = set (w .counts) before d; chunks = w .chunks }) cs
+    ≡ withChunks before used w (c ∷ cs)
+unfolding withChunks joined
+with-next before used d w c filled cs e f =
+    rw (e, f, stored-append (w .segments) used c (joined (λ x. x) cs), store-cons (w .counts) before (length c) (map length cs))

@@ -1,0 +1,91 @@
+use Rattle.wire.specs.declared.ReadSegment.{ReadSegment}
+use Rattle.lists.specs.Steps.{zeroSegment}
+use lib.ListN.{length-take, drop-of-length-le}
+use borrow.Author.Tests.{le-leb, lt-leb, eq-eqb, ne-eqb}
+use Rattle.lists.proofs.Items.{next-of}
+use native.Mathlib.Omega.{arith}
+use borrow.Author.Needs.{needs}
+use mathlib.Core.Path.{_≡_, refl, sym, _∙_}
+use Prim.Native.Nat.{_≤_, _-_}
+use lib.ListN.{length, take, drop}
+use Rattle.lists.specs.Lists.{positions}
+use Rattle.lists.proofs.positions_number.Statement.{statement}
+use Rattle.lists.proofs.positions_number.Tie as tie
+use Rattle.lists.proofs.positions_number.Reads as reads
+use Rattle.lists.proofs.positions_number.Lts as lts
+
+abbrev none : ReadSegment
+none = record { position = 0; target = zeroSegment }
+
+abbrev Inv-loop : tie.InvT-loop
+Inv-loop n segments last₀ k₀ last k = (k ≤ n) × (positions 0 (take n segments) 0 ≡ positions last (drop k (take n segments)) 0)
+
+abbrev μ-loop : tie.MeasureT-loop
+μ-loop n segments last₀ k₀ last k = n - k
+
+-- src/lib.rt:246:5
+loop-holds : tie.Need-loop-holds Inv-loop μ-loop
+loop-holds c = (search needs, refl)
+
+-- src/lib.rt:247:17
+mul-x : tie.Need-mul-x Inv-loop μ-loop
+mul-x c = search needs
+
+-- src/lib.rt:247:17
+array-copy-out-x : tie.Need-array-copy-out-x Inv-loop μ-loop
+array-copy-out-x c = search needs
+
+-- src/lib.rt:250:13
+returns : tie.Need-returns Inv-loop μ-loop
+unfolding positions
+returns c =
+    let full : length (c .before .before .before .before .args .t1) ≡ 16 = search needs in
+    let next = next-of (c .before .before .before .before .args .t1) (c .before .before .before .loop .k) (c .before .before .before .before .args .n) none (c .before .before .loop-test .taken) (omega arith) in
+    sym (c .before .before .before .loop .inv .1 ∙ rw (next, ne-eqb _ _ (c .if1 .taken)))
+
+-- src/lib.rt:253:13
+returns-2 : tie.Need-returns-2 Inv-loop μ-loop
+unfolding positions
+returns-2 c =
+    let full : length (c .before .before .before .before .before .args .t1) ≡ 16 = search needs in
+    let next = next-of (c .before .before .before .before .before .args .t1) (c .before .before .before .before .loop .k) (c .before .before .before .before .before .args .n) none (c .before .before .before .loop-test .taken) (omega arith) in
+    sym (c .before .before .before .before .loop .inv .1 ∙ rw (next, eq-eqb _ _ (c .before .if1 .left), lt-leb _ _ (c .if2 .taken)))
+
+-- src/lib.rt:246:9
+add-k : tie.Need-add-k Inv-loop μ-loop
+add-k c = search needs
+
+-- src/lib.rt:246:5
+loop-less : tie.Need-loop-less Inv-loop μ-loop
+loop-less c = search needs
+
+-- src/lib.rt:246:5
+loop-again : tie.Need-loop-again Inv-loop μ-loop
+unfolding positions
+loop-again c =
+    let full : length (c .before .before .before .before .before .args .t1) ≡ 16 = search needs in
+    let next = next-of (c .before .before .before .before .before .args .t1) (c .before .before .before .before .loop .k) (c .before .before .before .before .before .args .n) none (c .before .before .before .loop-test .taken) (omega arith) in
+    (search needs, c .before .before .before .before .loop .inv .1 ∙ rw (next, eq-eqb _ _ (c .before .if1 .left), le-leb _ _ (c .if2 .left)))
+
+-- src/lib.rt:241:1
+returns-3 : tie.Need-returns-3 Inv-loop μ-loop
+unfolding positions
+returns-3 c =
+    let full : length (take (c .before .before .args .n) (c .before .before .args .t1)) ≤ c .before .loop .k = rw length-take (omega arith) in
+    sym (c .before .loop .inv .1 ∙ rw (drop-of-length-le _ full))
+
+pub positions-number-spec : {M : Type 1} → statement M
+positions-number-spec =
+    tie.close
+    (tie.spec
+    Inv-loop
+    μ-loop
+    loop-holds
+    mul-x
+    array-copy-out-x
+    returns
+    returns-2
+    add-k
+    loop-less
+    loop-again
+    returns-3)

@@ -1,0 +1,3 @@
+pub mod Parsed
+pub mod Lists
+pub mod Steps

@@ -1,0 +1,81 @@
+-- What the functions under the readers answer, case by case, from the definitions of the lists. Only internal contracts cite these.
+use Prim.Native.Nat.{ℕ, zero, suc, _+_, _-_, _*_, _≤_}
+use mathlib.Core.Bool.{cond}
+use mathlib.Core.List.{List, [], _∷_, _++_, map}
+use mathlib.Core.Option.{Option, none, some}
+use lib.ListN.{length, drop, replicate}
+use lib.Dec.{eqb}
+use Rattle.wire.specs.Wire.{wordAt, segmentAt, readSegmentAt, stored, joined}
+use Rattle.wire.specs.declared.Segment.{Segment}
+use Rattle.wire.specs.declared.ReadSegment.{ReadSegment}
+use Rattle.lists.specs.Parsed.{Parsed, refused, done, each}
+use Rattle.lists.specs.Lists.{markerOf, readEntry, counted}
+use Rattle.lists.specs.declared.Marker.{Marker}
+use Rattle.lists.specs.declared.Marker.the-variants as marker
+use Rattle.lists.specs.declared.ReadStep.{ReadStep}
+use Rattle.lists.specs.declared.ReadStep.the-variants as read
+use Rattle.lists.specs.declared.ChunkStep.{ChunkStep}
+use Rattle.lists.specs.declared.ChunkStep.the-variants as chunk
+use Rattle.lists.specs.declared.ListWalk.{ListWalk}
+use Rattle.lists.specs.declared.ListWalk.the-variants as walk
+use Rattle.lists.specs.declared.WriteList.{WriteList}
+
+-- An entry of the read list: its position, or the number.
+abbrev pub entryStep : Parsed ReadSegment → ReadStep
+entryStep (refused n) = read.Refused n
+entryStep (done x t) = read.Entry (x .position)
+
+-- What stands at the front of a read list: its end, an entry, or a fault.
+abbrev pub readMarked : Marker → ReadStep → ReadStep
+readMarked (marker.Refused n) entry = read.Refused n
+readMarked marker.End entry = read.End
+readMarked marker.Entry entry = entry
+
+unfoldable pub readStep : ℕ → ℕ → List ℕ → ReadStep
+readStep room last s = readMarked (markerOf s) (cond (eqb room 0) (read.Refused 7) (entryStep (readEntry last (drop 4 s))))
+
+-- A counted run of segments: how many, or the number.
+abbrev pub countStep : Parsed (List Segment) → ChunkStep
+countStep (refused n) = chunk.Refused n
+countStep (done c t) = chunk.Chunk (length c)
+
+-- What stands at the front of a list of chunks: its end, a chunk, or a fault.
+abbrev pub chunkMarked : Marker → ChunkStep → ChunkStep
+chunkMarked (marker.Refused n) entry = chunk.Refused n
+chunkMarked marker.End entry = chunk.End
+chunkMarked marker.Entry entry = entry
+
+unfoldable pub chunkStep : ℕ → ℕ → List ℕ → ChunkStep
+chunkStep room left s = chunkMarked (markerOf s) (cond (eqb room 0) (chunk.Refused 7) (countStep (counted left (drop 4 s))))
+
+-- A whole list, behind `before` entries: how many entries there are then, and the bytes left behind it.
+unfoldable pub listWalk : {A : Type 0} → ℕ → Parsed (List A) → ListWalk
+listWalk before (refused n) = walk.Refused n
+listWalk before (done l t) = walk.Done (before + length l) (length t)
+
+-- The chunks of a write list that was read, by their count words: the next count word stands behind a marker.
+unfoldable pub chunksAt : ℕ → List ℕ → List (List Segment)
+chunksAt zero s = []
+chunksAt (suc n) s = each 16 (λ t. segmentAt t 0) (wordAt s 4) (drop 8 s) ∷ chunksAt n (drop (8 + wordAt s 4 * 16) s)
+
+-- All bytes of these chunks are there, and they have at most `left` segments together.
+unfoldable pub ChunksFit : ℕ → ℕ → List ℕ → Type 0
+ChunksFit zero left s = Unit {0}
+ChunksFit (suc n) left s =
+    (8 + wordAt s 4 * 16 ≤ length s) × (wordAt s 4 ≤ left) × ChunksFit n (left - wordAt s 4) (drop (8 + wordAt s 4 * 16) s)
+
+-- A write list with chunks cs stored behind `before` chunks of `segments` segments.
+unfoldable pub withChunks : ℕ → ℕ → WriteList → List (List Segment) → WriteList
+withChunks before segments w cs =
+    record { segments = stored (w .segments) segments (joined (λ c. c) cs); counts = stored (w .counts) before (map length cs); chunks = w .chunks }
+
+-- The read segment behind a marker.
+abbrev pub markedSegmentAt : List ℕ → ReadSegment
+markedSegmentAt s = readSegmentAt s 4
+
+-- "Unused places of a header that was read are zero": an empty place, and the places before anything is stored.
+abbrev pub zeroSegment : Segment
+zeroSegment = record { handle = 0; length = 0; offset = 0 }
+
+abbrev pub zeroReads : List ReadSegment
+zeroReads = replicate 16 (record { position = 0; target = zeroSegment })

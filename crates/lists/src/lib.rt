@@ -1,0 +1,258 @@
+// The read list, the write list and the reply chunk of a transport header. A list is checked by a function that calls
+// itself on the rest and answers little; what it found is then read in one go. Internal to the library.
+use wire::ReadSegment;
+use wire::Segment;
+use wire::Word;
+ghost use mathlib.Core.Path.{_≡_};
+ghost use Prim.Native.Nat.{ℕ, _+_, _*_, _-_, _≤_};
+ghost use lib.ListN.{length, take, drop};
+ghost use Rattle.wire.specs.Wire.{segmentAt, stored};
+ghost use Rattle.lists.specs.Parsed.{each};
+ghost use Rattle.lists.specs.Lists.{markerOf, readEntry, readList, positions, counted, writeList};
+ghost use Rattle.lists.specs.Steps.{entryStep, readStep, countStep, chunkStep, listWalk, markedSegmentAt, zeroReads, chunksAt, ChunksFit, withChunks};
+
+// "Limits: 16 read segments; 4 write chunks holding 16 segments together; 16 segments in the reply chunk"
+pub const READ_SEGMENTS: usize = 16;
+pub const WRITE_CHUNKS: usize = 4;
+pub const WRITE_SEGMENTS: usize = 16;
+pub const REPLY_SEGMENTS: usize = 16;
+
+// "a marker word above 1"
+pub const BAD_MARKER: u32 = 6;
+// "an entry or count that goes over a limit above"
+pub const OVER_LIMIT: u32 = 7;
+// "a read position below the one before it"
+pub const POSITION_FALLS: u32 = 8;
+// "a read position that is no multiple of 4"
+pub const POSITION_UNALIGNED: u32 = 9;
+
+pub struct ReadList {
+    pub segments: [ReadSegment; 16],
+    pub count: u32,
+}
+
+// The segments of all chunks lie one behind the other; `counts` tells how many each chunk has.
+pub struct WriteList {
+    pub segments: [Segment; 16],
+    pub counts: [u32; 4],
+    pub chunks: u32,
+}
+
+pub struct ReplyChunk {
+    pub segments: [Segment; 16],
+    pub count: u32,
+    pub present: bool,
+}
+
+pub enum Marker {
+    End,
+    Entry,
+    Refused(u32),
+}
+
+// What stands at the front of a read list; of an entry, its position.
+pub enum ReadStep {
+    End,
+    Entry(u32),
+    Refused(u32),
+}
+
+// What stands at the front of a list of chunks; of a chunk, its number of segments.
+pub enum ChunkStep {
+    End,
+    Chunk(usize),
+    Refused(u32),
+}
+
+// A list that was checked: how many entries it has, and how many bytes are left behind it.
+pub enum ListWalk {
+    Done(usize, usize),
+    Refused(u32),
+}
+
+pub fn read_marker(s: &[u8]) -> Marker
+    ensures { λ r. ⌜ r ≡ markerOf (now (s .entry)) ⌝ }
+{
+    let word = wire::first_word(s);
+    let Word::Value(marker) = word else {
+        return Marker::Refused(wire::refusal(word));
+    };
+    if marker == 0 {
+        return Marker::End;
+    }
+    if marker == 1 {
+        return Marker::Entry;
+    }
+    Marker::Refused(BAD_MARKER)
+}
+
+// The read entry at the front of s, behind an entry at the position `last`.
+fn read_entry(s: &[u8], last: u32) -> ReadStep
+    ensures { λ r. ⌜ r ≡ entryStep (readEntry last (now (s .entry))) ⌝ }
+{
+    if s.len() < wire::READ_SEGMENT_BYTES {
+        return ReadStep::Refused(wire::ENDS_INSIDE_FIELD);
+    }
+    let position = wire::word_at(s, 0);
+    if position % 4 != 0 {
+        return ReadStep::Refused(POSITION_UNALIGNED);
+    }
+    if position < last {
+        return ReadStep::Refused(POSITION_FALLS);
+    }
+    ReadStep::Entry(position)
+}
+
+// The marker at the front of s, and the read entry behind a marker 1.
+fn read_step(s: &[u8], room: usize, last: u32) -> ReadStep
+    ensures { λ r. ⌜ r ≡ readStep room last (now (s .entry)) ⌝ }
+{
+    let marker = read_marker(s);
+    match marker {
+        Marker::End => ReadStep::End,
+        Marker::Refused(number) => ReadStep::Refused(number),
+        Marker::Entry => {
+            if room == 0 {
+                return ReadStep::Refused(OVER_LIMIT);
+            }
+            read_entry(&s[4..], last)
+        }
+    }
+}
+
+// Checks the read list at the front of s, of at most `room` entries, behind an entry at the position `last`.
+pub fn walk_reads(s: &[u8], room: usize, last: u32) -> ListWalk
+    requires { ⌜ room ≤ 16 ⌝ }
+    ensures { λ r. ⌜ r ≡ listWalk (16 - room) (readList room last (now (s .entry))) ⌝ }
+{
+    let step = read_step(s, room, last);
+    match step {
+        ReadStep::End => ListWalk::Done(READ_SEGMENTS - room, s.len() - 4),
+        ReadStep::Refused(number) => ListWalk::Refused(number),
+        ReadStep::Entry(position) => walk_reads(&s[24..], room - 1, position),
+    }
+}
+
+// The counted run of segments at the front of s, where `left` segments may come.
+fn count_step(s: &[u8], left: usize) -> ChunkStep
+    requires { ⌜ left ≤ 16 ⌝ }
+    ensures { λ r. ⌜ r ≡ countStep (counted left (now (s .entry))) ⌝ }
+{
+    let word = wire::first_word(s);
+    let Word::Value(count) = word else {
+        return ChunkStep::Refused(wire::refusal(word));
+    };
+    let n = count as usize;
+    if left < n {
+        return ChunkStep::Refused(OVER_LIMIT);
+    }
+    if s.len() < 4 + n * 16 {
+        return ChunkStep::Refused(wire::ENDS_INSIDE_FIELD);
+    }
+    ChunkStep::Chunk(n)
+}
+
+// The marker at the front of s, and the counted run behind a marker 1.
+pub fn chunk_step(s: &[u8], room: usize, left: usize) -> ChunkStep
+    requires { ⌜ left ≤ 16 ⌝ }
+    ensures { λ r. ⌜ r ≡ chunkStep room left (now (s .entry)) ⌝ }
+{
+    let marker = read_marker(s);
+    match marker {
+        Marker::End => ChunkStep::End,
+        Marker::Refused(number) => ChunkStep::Refused(number),
+        Marker::Entry => {
+            if room == 0 {
+                return ChunkStep::Refused(OVER_LIMIT);
+            }
+            count_step(&s[4..], left)
+        }
+    }
+}
+
+// Checks the write list at the front of s, of at most `room` chunks with at most `left` segments together.
+pub fn walk_writes(s: &[u8], room: usize, left: usize) -> ListWalk
+    requires { ⌜ (room ≤ 4) × (left ≤ 16) ⌝ }
+    ensures { λ r. ⌜ r ≡ listWalk (4 - room) (writeList room left (now (s .entry))) ⌝ }
+{
+    let step = chunk_step(s, room, left);
+    match step {
+        ChunkStep::End => ListWalk::Done(WRITE_CHUNKS - room, s.len() - 4),
+        ChunkStep::Refused(number) => ListWalk::Refused(number),
+        ChunkStep::Chunk(n) => {
+            let end = 8 + n * 16;
+            walk_writes(&s[end..], room - 1, left - n)
+        }
+    }
+}
+
+// The n entries of a read list that was checked.
+pub fn fill_reads(s: &[u8], n: usize) -> [ReadSegment; 16]
+    requires { ⌜ (n ≤ 16) × (n * 24 ≤ length (now s)) ⌝ }
+    ensures { λ r. ⌜ r ≡ stored zeroReads 0 (each 24 markedSegmentAt n (now (s .entry))) ⌝ }
+{
+    let none = ReadSegment {
+        position: 0,
+        target: Segment {
+            handle: 0,
+            length: 0,
+            offset: 0,
+        },
+    };
+    let mut to = [none; 16];
+    for k in 0..n {
+        to[k] = wire::read_segment_at(s, k * 24 + 4);
+    }
+    to
+}
+
+// The n segments from `from` on, stored behind `i` others.
+pub fn fill_segments(s: &[u8], from: usize, n: usize, i: usize, segments: [Segment; 16]) -> [Segment; 16]
+    requires { ⌜ (from + n * 16 ≤ length (now s)) × (i + n ≤ 16) ⌝ }
+    ensures { λ r. ⌜ r ≡ stored segments i (each 16 (λ t. segmentAt t 0) n (drop from (now (s .entry)))) ⌝ }
+{
+    let mut to = segments;
+    for k in 0..n {
+        to[i + k] = wire::segment_at(s, from + k * 16);
+    }
+    to
+}
+
+// The n chunks of a write list that was checked, stored behind `i` chunks that have `used` segments.
+pub fn fill_writes(s: &[u8], n: usize, i: usize, used: usize, list: WriteList) -> WriteList
+    requires { ⌜ (i + n ≤ 4) × (used ≤ 16) × ChunksFit n (16 - used) (now s) ⌝ }
+    ensures { λ r. ⌜ r ≡ withChunks i used list (chunksAt n (now (s .entry))) ⌝ }
+{
+    if n == 0 {
+        return list;
+    }
+    let count = wire::word_at(s, 4);
+    let d = count as usize;
+    let mut next = list;
+    next.counts[i] = count;
+    let segments = next.segments;
+    let filled = fill_segments(s, 8, d, used, segments);
+    next.segments = filled;
+    let end = 8 + d * 16;
+    fill_writes(&s[end..], n - 1, i + 1, used + d, next)
+}
+
+// The number of the first read entry at fault, or 0.
+pub fn positions_number(segments: [ReadSegment; 16], n: usize) -> u32
+    requires { ⌜ n ≤ 16 ⌝ }
+    ensures { λ r. ⌜ r ≡ positions 0 (take n segments) 0 ⌝ }
+{
+    let mut last: u32 = 0;
+    for k in 0..n {
+        let x = segments[k];
+        let position = x.position;
+        if position % 4 != 0 {
+            return POSITION_UNALIGNED;
+        }
+        if position < last {
+            return POSITION_FALLS;
+        }
+        last = position;
+    }
+    0
+}

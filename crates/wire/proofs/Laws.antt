@@ -1,0 +1,37 @@
+-- Laws about bytes stored and read at places.
+-- Assumes nothing.
+use mathlib.Core.Path.{_≡_, refl, sym, ap, _∙_}
+use mathlib.Core.List.{List, [], _∷_, _++_}
+use Prim.Native.Nat.{ℕ, zero, suc, _+_, _-_, _≤_, _<_}
+use native.Mathlib.Nat.{add-zero, add-suc, suc-add, add-assoc, le-refl}
+use native.Mathlib.Omega.{arith}
+use lib.ListN.{length, take, drop, getD, set, length-drop}
+use lib.Seq.{take-all, getD-drop}
+use Rattle.wire.specs.Wire.{stored, wordAt, segmentAt, readSegmentAt}
+
+-- The part of a slice from k on.
+pub part-from : (k : ℕ) (s : List ℕ) → take (length s - k) (drop k s) ≡ drop k s
+part-from k s = take-all (length s - k) (drop k s) (rw length-drop (le-refl _))
+
+-- Two runs stored one behind the other are one run.
+pub stored-append : {A : Type 0} (l : List A) (i : ℕ) (a b : List A) → stored l i (a ++ b) ≡ stored (stored l i a) (i + length a) b
+unfolding stored
+stored-append l i [] b = rw add-zero
+stored-append l i (x ∷ a) b = stored-append (set l i x) (suc i) a b ∙ rw (add-suc, suc-add)
+
+-- The same of three states of a buffer.
+pub then : {A : Type 0} (l m n : List A) (i j : ℕ) (a b : List A) → m ≡ stored l i a → n ≡ stored m j b → i + length a ≡ j → n ≡ stored l i (a ++ b)
+then l m n i j a b p q e = q ∙ rw (← e, p, stored-append l i a b)
+
+-- What stands behind k bytes: a word, a segment, a read segment.
+pub word-drop : (k j : ℕ) (s : List ℕ) → wordAt (drop k s) j ≡ wordAt s (k + j)
+unfolding wordAt
+word-drop k j s = simp (getD-drop, add-assoc)
+
+pub segment-drop : (k j : ℕ) (s : List ℕ) → segmentAt (drop k s) j ≡ segmentAt s (k + j)
+unfolding segmentAt
+segment-drop k j s = simp (word-drop, add-assoc)
+
+pub read-segment-drop : (k j : ℕ) (s : List ℕ) → readSegmentAt (drop k s) j ≡ readSegmentAt s (k + j)
+unfolding readSegmentAt
+read-segment-drop k j s = simp (word-drop, segment-drop, add-assoc)

@@ -1,0 +1,132 @@
+// Words and segments, of which every part of a transport header is made, read from a frame and written into a buffer.
+// Internal to the library: these calls ask that the bytes are there.
+ghost use mathlib.Core.Path.{_≡_};
+ghost use Prim.Native.Nat.{ℕ, _+_, _*_, _≤_};
+ghost use lib.ListN.{length};
+ghost use Rattle.wire.specs.Wire.{joinBytes, wordAt, wordOf, refusalOf, segmentAt, readSegmentAt, stored, wordBytes, segmentBytes, readSegmentBytes};
+
+// "All numbers on the wire are big-endian 32-bit words, but a segment's offset has 64 bits."
+pub const WORD_BYTES: usize = 4;
+
+// "handle, length, offset: 16 bytes each"
+pub const SEGMENT_BYTES: usize = 16;
+
+// "An entry is position, handle, length, offset: 20 bytes."
+pub const READ_SEGMENT_BYTES: usize = 20;
+
+// "frame ends inside a field that must be there"
+pub const ENDS_INSIDE_FIELD: u32 = 5;
+
+// Memory that the other side registered.
+pub struct Segment {
+    pub handle: u32,
+    pub length: u32,
+    pub offset: u64,
+}
+
+// A segment to be pulled, and where in the message its bytes go.
+pub struct ReadSegment {
+    pub position: u32,
+    pub target: Segment,
+}
+
+// A word that is asked for: its value, or the number of the refusal.
+pub enum Word {
+    Value(u32),
+    Refused(u32),
+}
+
+fn join_bytes(a: u8, b: u8, c: u8, d: u8) -> u32
+    ensures { λ r. ⌜ r ≡ joinBytes a b c d ⌝ }
+{
+    (a as u32) * 16777216 + (b as u32) * 65536 + (c as u32) * 256 + (d as u32)
+}
+
+fn join_words(high: u32, low: u32) -> u64
+    ensures { λ r. ⌜ r ≡ high * 4294967296 + low ⌝ }
+{
+    (high as u64) * 4294967296 + (low as u64)
+}
+
+// The word in the bytes from `k` on.
+pub fn word_at(s: &[u8], k: usize) -> u32
+    requires { ⌜ k + 4 ≤ length (now s) ⌝ }
+    ensures { λ r. ⌜ r ≡ wordAt (now (s .entry)) k ⌝ }
+{
+    join_bytes(s[k], s[k + 1], s[k + 2], s[k + 3])
+}
+
+// The first word.
+pub fn first_word(s: &[u8]) -> Word
+    ensures { λ r. ⌜ r ≡ wordOf (now (s .entry)) ⌝ }
+{
+    if s.len() < WORD_BYTES {
+        return Word::Refused(ENDS_INSIDE_FIELD);
+    }
+    Word::Value(word_at(s, 0))
+}
+
+// The number of a refusal.
+pub fn refusal(w: Word) -> u32
+    ensures { λ r. ⌜ r ≡ refusalOf w ⌝ }
+{
+    match w {
+        Word::Refused(number) => number,
+        Word::Value(_) => 0,
+    }
+}
+
+// The segment in the bytes from `k` on.
+pub fn segment_at(s: &[u8], k: usize) -> Segment
+    requires { ⌜ k + 16 ≤ length (now s) ⌝ }
+    ensures { λ r. ⌜ r ≡ segmentAt (now (s .entry)) k ⌝ }
+{
+    Segment {
+        handle: word_at(s, k),
+        length: word_at(s, k + 4),
+        offset: join_words(word_at(s, k + 8), word_at(s, k + 12)),
+    }
+}
+
+// The read segment in the bytes from `k` on.
+pub fn read_segment_at(s: &[u8], k: usize) -> ReadSegment
+    requires { ⌜ k + 20 ≤ length (now s) ⌝ }
+    ensures { λ r. ⌜ r ≡ readSegmentAt (now (s .entry)) k ⌝ }
+{
+    ReadSegment {
+        position: word_at(s, k),
+        target: segment_at(s, k + 4),
+    }
+}
+
+// Writes a word into the bytes from `k` on.
+pub fn put_word(out: &mut [u8], k: usize, x: u32)
+    requires { ⌜ k + 4 ≤ length (now out) ⌝ }
+    ensures { λ _. ⌜ now (out .exit) ≡ stored (now (out .entry)) k (wordBytes x) ⌝ }
+{
+    out[k] = (x / 16777216 % 256) as u8;
+    out[k + 1] = (x / 65536 % 256) as u8;
+    out[k + 2] = (x / 256 % 256) as u8;
+    out[k + 3] = (x % 256) as u8;
+}
+
+// Writes a segment into the bytes from `k` on.
+pub fn put_segment(out: &mut [u8], k: usize, x: Segment)
+    requires { ⌜ k + 16 ≤ length (now out) ⌝ }
+    ensures { λ _. ⌜ now (out .exit) ≡ stored (now (out .entry)) k (segmentBytes x) ⌝ }
+{
+    put_word(out, k, x.handle);
+    put_word(out, k + 4, x.length);
+    put_word(out, k + 8, (x.offset / 4294967296) as u32);
+    put_word(out, k + 12, (x.offset % 4294967296) as u32);
+}
+
+// Writes a read segment into the bytes from `k` on.
+pub fn put_read_segment(out: &mut [u8], k: usize, x: ReadSegment)
+    requires { ⌜ k + 20 ≤ length (now out) ⌝ }
+    ensures { λ _. ⌜ now (out .exit) ≡ stored (now (out .entry)) k (readSegmentBytes x) ⌝ }
+{
+    put_word(out, k, x.position);
+    let target = x.target;
+    put_segment(out, k + 4, target);
+}

@@ -1,0 +1,58 @@
+-- Writing a header (document 01, "The numbers and their order").
+use Prim.Native.Nat.{ℕ, zero, suc, _+_}
+use mathlib.Core.Path.{_≡_}
+use mathlib.Core.Bool.{Bool, true, false, cond, not, _&&_}
+use mathlib.Core.List.{List, [], _∷_, _++_}
+use lib.ListN.{length, take, drop}
+use lib.Dec.{leb, eqb}
+use Rattle.lists.specs.Parsed.{check}
+use Rattle.lists.specs.Lists.{positions}
+use Rattle.header.specs.Content.{contentOf}
+use Rattle.header.specs.declared.Kind.{Kind}
+use Rattle.header.specs.declared.Kind.the-variants.{Msg, Nomsg, Error}
+use Rattle.header.specs.declared.Header.{Header}
+use Rattle.writer.specs.Bytes.{headerBytes}
+use Rattle.writer.specs.declared.WriteAnswer.{WriteAnswer}
+
+-- "12 (here only for an ERROR header with any entry or a reply chunk)"
+abbrev pub bareIfError : Kind → ℕ → ℕ → Bool → Bool
+bareIfError Msg reads chunks present = true
+bareIfError Nomsg reads chunks present = true
+bareIfError (Error e) reads chunks present = eqb reads 0 && (eqb chunks 0 && not present)
+
+-- The segments of all chunks together.
+unfoldable pub total : List ℕ → ℕ
+total [] = 0
+total (n ∷ ns) = n + total ns
+
+-- "7 (also segments in an absent reply chunk)": the limits of a header that is to be written.
+unfoldable pub withinLimits : ℕ → ℕ → List ℕ → Bool → ℕ → Bool
+withinLimits reads chunks counts present replies =
+    leb reads 16 && (leb chunks 4 && (leb (total (take chunks counts)) 16 && leb replies (cond present 16 0)))
+
+-- "Writing a header checks 12 .., 7 .., then entry by entry 9 and 8, then 21, 16.", into `room` bytes.
+unfoldable pub writeNumber : Header → ℕ → ℕ
+writeNumber h room =
+    check (bareIfError (h .kind) (h .reads .count) (h .writes .chunks) (h .reply .present)) 12
+    (check (withinLimits (h .reads .count) (h .writes .chunks) (h .writes .counts) (h .reply .present) (h .reply .count)) 7
+    (positions 0 (contentOf h .reads)
+    (check (leb (length (headerBytes (contentOf h))) 1024) 21
+    (check (leb (length (headerBytes (contentOf h))) room) 16
+    0))))
+
+-- The number, and with 0 how many bytes were written.
+unfoldable pub writeAnswer : Header → ℕ → WriteAnswer
+writeAnswer h room =
+    record { number = writeNumber h room; length = cond (eqb (writeNumber h room) 0) (length (headerBytes (contentOf h))) 0 }
+
+-- "Every writer keeps the buffer's bytes behind what it wrote."; a refused call leaves the buffer as it was.
+unfoldable pub writtenInto : Header → List ℕ → List ℕ
+writtenInto h out =
+    cond (eqb (writeNumber h (length out)) 0)
+    (headerBytes (contentOf h) ++ drop (length (headerBytes (contentOf h))) out)
+    out
+
+-- The whole contract of writing a header h into a buffer.
+pub record WritesHeader (h : Header) (before : List ℕ) (r : WriteAnswer) (after : List ℕ) : Type 0 where
+  pub answer : r ≡ writeAnswer h (length before)
+  pub buffer : after ≡ writtenInto h before

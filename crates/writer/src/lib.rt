@@ -1,0 +1,281 @@
+// The transport header, written into a lent buffer. Public: write_header.
+use header::ErrorKind;
+use header::Header;
+use header::Kind;
+use lists::ReadList;
+use lists::ReplyChunk;
+use lists::WriteList;
+use wire::ReadSegment;
+use wire::Segment;
+ghost use mathlib.Core.Path.{_≡_};
+ghost use Prim.Native.Nat.{ℕ, _+_, _*_, _-_, _≤_};
+ghost use lib.ListN.{length, take, drop};
+ghost use Rattle.wire.specs.Wire.{stored, joined, wordBytes, segmentBytes};
+ghost use Rattle.header.specs.Content.{contentOf, runs};
+ghost use Rattle.writer.specs.Bytes.{entryBytes, chunkBytes, readListBytes, writeListBytes, replyBytes, errorBytes, fixedBytes, procedureOf, headerBytes};
+ghost use Rattle.writer.specs.Write.{bareIfError, total, withinLimits, writeNumber, WritesHeader};
+
+// "kind and lists do not fit"
+pub const KIND_AND_LISTS: u32 = 12;
+// "output buffer too short"
+pub const BUFFER_SHORT: u32 = 16;
+// "a header to be written is longer than 1,024 bytes"
+pub const HEADER_LONG: u32 = 21;
+pub const LONGEST_HEADER: usize = 1024;
+
+pub struct WriteAnswer {
+    pub number: u32,
+    pub length: usize,
+}
+
+// Whether a header that is an ERROR has no entry and no reply chunk.
+fn bare_if_error(kind: Kind, reads: u32, chunks: u32, present: bool) -> bool
+    ensures { λ r. ⌜ r ≡ bareIfError kind reads chunks present ⌝ }
+{
+    match kind {
+        Kind::Msg => true,
+        Kind::Nomsg => true,
+        Kind::Error(_) => {
+            if reads != 0 {
+                return false;
+            }
+            if chunks != 0 {
+                return false;
+            }
+            !present
+        }
+    }
+}
+
+// The segments of the first n chunks; 64 bits, so that no counts wrap.
+fn total_count(counts: [u32; 4], n: usize) -> u64
+    requires { ⌜ n ≤ 4 ⌝ }
+    ensures { λ r. ⌜ r ≡ total (take n counts) ⌝ }
+{
+    let mut sum: u64 = 0;
+    for k in 0..n {
+        let count = counts[k];
+        sum += count as u64;
+    }
+    sum
+}
+
+// Whether the counts of a header are within its limits.
+fn within_limits(reads: u32, chunks: u32, counts: [u32; 4], present: bool, replies: u32) -> bool
+    ensures { λ r. ⌜ r ≡ withinLimits reads chunks counts present replies ⌝ }
+{
+    if 16 < reads {
+        return false;
+    }
+    if 4 < chunks {
+        return false;
+    }
+    if 16 < total_count(counts, chunks as usize) {
+        return false;
+    }
+    if present {
+        return replies <= 16;
+    }
+    replies == 0
+}
+
+// The bytes of a reply chunk, or of its absence.
+fn reply_length(present: bool, count: usize) -> usize
+    requires { ⌜ count ≤ 16 ⌝ }
+{
+    if present {
+        return 8 + count * 16;
+    }
+    4
+}
+
+// The bytes of the three parts.
+fn lists_length(reads: usize, chunks: usize, segments: usize, reply: usize) -> usize
+    requires { ⌜ (reads ≤ 16) × (chunks ≤ 4) × (segments ≤ 16) × (reply ≤ 264) ⌝ }
+    ensures { λ r. ⌜ r ≡ (reads * 24 + 4) + ((chunks * 8 + segments * 16 + 4) + reply) ⌝ }
+{
+    (reads * 24 + 4) + ((chunks * 8 + segments * 16 + 4) + reply)
+}
+
+fn error_length(e: ErrorKind) -> usize {
+    match e {
+        ErrorKind::Version(_, _) => 12,
+        ErrorKind::Chunk => 4,
+    }
+}
+
+// How many bytes a header within its limits takes.
+fn header_length(kind: Kind, reads: usize, chunks: usize, counts: [u32; 4], present: bool, replies: usize) -> usize {
+    let Kind::Error(e) = kind else {
+        let segments = total_count(counts, chunks) as usize;
+        return 16 + lists_length(reads, chunks, segments, reply_length(present, replies));
+    };
+    16 + error_length(e)
+}
+
+// The number that writing a header into `room` bytes gives.
+fn write_number(h: Header, room: usize) -> u32
+    ensures { λ r. ⌜ r ≡ writeNumber h room ⌝ }
+{
+    let kind = h.kind;
+    let reads = h.reads;
+    let writes = h.writes;
+    let reply = h.reply;
+    let counts = writes.counts;
+    let segments = reads.segments;
+    if !bare_if_error(kind, reads.count, writes.chunks, reply.present) {
+        return KIND_AND_LISTS;
+    }
+    if !within_limits(reads.count, writes.chunks, counts, reply.present, reply.count) {
+        return lists::OVER_LIMIT;
+    }
+    let n = reads.count as usize;
+    let fault = lists::positions_number(segments, n);
+    if fault != 0 {
+        return fault;
+    }
+    let length = header_length(kind, n, writes.chunks as usize, counts, reply.present, reply.count as usize);
+    if LONGEST_HEADER < length {
+        return HEADER_LONG;
+    }
+    if room < length {
+        return BUFFER_SHORT;
+    }
+    0
+}
+
+// Writes n segments from place i of `segments` on.
+fn put_segments(out: &mut [u8], k: usize, segments: [Segment; 16], i: usize, n: usize)
+    requires { ⌜ (k + n * 16 ≤ length (now out)) × (i + n ≤ 16) ⌝ }
+    ensures { λ _. ⌜ now (out .exit) ≡ stored (now (out .entry)) k (joined segmentBytes (take n (drop i segments))) ⌝ }
+{
+    for j in 0..n {
+        let x = segments[i + j];
+        wire::put_segment(out, k + j * 16, x);
+    }
+}
+
+// Writes a chunk behind its marker: a count and its segments.
+fn put_chunk(out: &mut [u8], k: usize, segments: [Segment; 16], i: usize, n: usize)
+    requires { ⌜ (k + 8 + n * 16 ≤ length (now out)) × (i + n ≤ 16) ⌝ }
+    ensures { λ _. ⌜ now (out .exit) ≡ stored (now (out .entry)) k (chunkBytes (take n (drop i segments))) ⌝ }
+{
+    wire::put_word(out, k, 1);
+    wire::put_word(out, k + 4, n as u32);
+    put_segments(out, k + 8, segments, i, n);
+}
+
+// Writes the entries of a read list and its end.
+fn put_reads(out: &mut [u8], k: usize, segments: [ReadSegment; 16], n: usize)
+    requires { ⌜ (k + 4 + n * 24 ≤ length (now out)) × (n ≤ 16) ⌝ }
+    ensures { λ _. ⌜ now (out .exit) ≡ stored (now (out .entry)) k (readListBytes (take n segments)) ⌝ }
+{
+    for j in 0..n {
+        let x = segments[j];
+        wire::put_word(out, k + j * 24, 1);
+        wire::put_read_segment(out, k + j * 24 + 4, x);
+    }
+    wire::put_word(out, k + n * 24, 0);
+}
+
+// Writes the n chunks of a write list and its end; answers where it ends.
+fn put_writes(out: &mut [u8], k: usize, segments: [Segment; 16], counts: [u32; 4], n: usize) -> usize
+    requires { ⌜ (n ≤ 4) × (total (take n counts) ≤ 16) × (k + n * 8 + total (take n counts) * 16 + 4 ≤ length (now out)) ⌝ }
+    ensures { λ r. ⌜ (r ≡ k + n * 8 + total (take n counts) * 16 + 4) × (now (out .exit) ≡ stored (now (out .entry)) k (writeListBytes (runs (take n counts) segments))) ⌝ }
+{
+    let mut end = k;
+    let mut used = 0;
+    for j in 0..n {
+        let d = counts[j] as usize;
+        put_chunk(out, end, segments, used, d);
+        end += 8 + d * 16;
+        used += d;
+    }
+    wire::put_word(out, end, 0);
+    end + 4
+}
+
+// Writes a reply chunk, or its absence; answers where it ends.
+fn put_reply(out: &mut [u8], k: usize, segments: [Segment; 16], present: bool, n: usize) -> usize
+{
+    if present {
+        put_chunk(out, k, segments, 0, n);
+        return k + 8 + n * 16;
+    }
+    wire::put_word(out, k, 0);
+    k + 4
+}
+
+// Writes what stands behind the fixed words of an ERROR header; answers where it ends.
+fn put_error(out: &mut [u8], k: usize, e: ErrorKind) -> usize {
+    match e {
+        ErrorKind::Version(low, high) => {
+            wire::put_word(out, k, 1);
+            wire::put_word(out, k + 4, low);
+            wire::put_word(out, k + 8, high);
+            k + 12
+        }
+        ErrorKind::Chunk => {
+            wire::put_word(out, k, 2);
+            k + 4
+        }
+    }
+}
+
+fn procedure_of(kind: Kind) -> u32
+    ensures { λ r. ⌜ r ≡ procedureOf kind ⌝ }
+{
+    match kind {
+        Kind::Msg => 0,
+        Kind::Nomsg => 1,
+        Kind::Error(_) => 4,
+    }
+}
+
+// Writes the fixed words.
+fn put_fixed(out: &mut [u8], kind: Kind, xid: u32, credit: u32)
+    requires { ⌜ 16 ≤ length (now out) ⌝ }
+    ensures { λ _. ⌜ now (out .exit) ≡ stored (now (out .entry)) 0 (fixedBytes kind xid credit) ⌝ }
+{
+    wire::put_word(out, 0, xid);
+    wire::put_word(out, 4, 1);
+    wire::put_word(out, 8, credit);
+    wire::put_word(out, 12, procedure_of(kind));
+}
+
+// Writes the three parts behind the fixed words; answers where they end.
+fn put_lists(out: &mut [u8], reads: ReadList, writes: WriteList, reply: ReplyChunk) -> usize {
+    let segments = reads.segments;
+    let n = reads.count as usize;
+    put_reads(out, 16, segments, n);
+    let chunks = writes.segments;
+    let counts = writes.counts;
+    let end = put_writes(out, 20 + n * 24, chunks, counts, writes.chunks as usize);
+    let replies = reply.segments;
+    put_reply(out, end, replies, reply.present, reply.count as usize)
+}
+
+// Writes a header that has passed its checks; answers its length.
+fn put_header(out: &mut [u8], h: Header) -> usize {
+    let kind = h.kind;
+    put_fixed(out, kind, h.xid, h.credit);
+    let Kind::Error(e) = kind else {
+        let reads = h.reads;
+        let writes = h.writes;
+        let reply = h.reply;
+        return put_lists(out, reads, writes, reply);
+    };
+    put_error(out, 16, e)
+}
+
+// Writes a header at the front of a buffer and keeps the bytes behind it.
+pub fn write_header(h: Header, out: &mut [u8]) -> WriteAnswer
+    ensures { λ r. ⌜ WritesHeader h (now (out .entry)) r (now (out .exit)) ⌝ }
+{
+    let number = write_number(h, out.len());
+    if number != 0 {
+        return WriteAnswer { number, length: 0 };
+    }
+    let length = put_header(out, h);
+    WriteAnswer { number: 0, length }
+}
