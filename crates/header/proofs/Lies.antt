@@ -60,6 +60,7 @@ reply-lies s p reply t fits e = go (chunk-front 1 16 (drop p s))
         let total = length-drop p s in
         let n : length s - length t ≡ p + 4 = omega arith in
         rw absent (record { few = omega arith; short = omega arith; long = omega arith; behind = rest ∙ ap (λ (j : ℕ). drop j s) (sym n); are = refl })
+
     chunked : (c : List Segment) (u : List ℕ) → Chunk 16 (drop p s) c u → done (some c) u ≡ done reply t → ReplyLies s reply t
     chunked c u k q =
         let present : reply ≡ some c = cc in
@@ -76,8 +77,9 @@ reply-lies s p reply t fits e = go (chunk-front 1 16 (drop p s))
           short = omega arith;
           long = omega arith;
           behind = rest ∙ ap (λ (j : ℕ). drop j s) (sym n);
-          are = k .is ∙ ap (each 16 (λ v. segmentAt v 0) (length c)) (drop-drop 8 p s ∙ ap (λ (j : ℕ). drop j s) m)
+          are = k .is ∙ ap (each 16 (λ v. segmentAt v 0) (length c)) (drop-drop 8 p s ∙ ap (λ (j : ℕ). drop j s) m);
         })
+
     go : ChunkFront 1 16 (drop p s) → ReplyLies s reply t
     go (laws.ChunkFront.ends f m) = let a = reply-absent (drop p s) f in ended (a .0) (sym (a .1) ∙ e)
     go (laws.ChunkFront.unmarked k f m) = absurd (never (sym (reply-refused (drop p s) k f) ∙ e))
@@ -134,7 +136,7 @@ parts-lie kind s c t long e =
           writes-within = y .within;
           writes-fit = subst (ChunksFit (length writes) 16) here (y .fits);
           writes-are = y .is ∙ ap (chunksAt (length writes)) here;
-          reply = reply-lies s (length s - length v) reply w (omega arith) reply-there
+          reply = reply-lies s (length s - length v) reply w (omega arith) reply-there;
         })
 
 -- An ERROR header has empty lists, wherever it ends.
@@ -153,7 +155,7 @@ bare-lies e s t end long fits rest =
       writes-within = omega arith;
       writes-fit = tt;
       writes-are = refl;
-      reply = record { few = omega arith; short = omega arith; long = omega arith; behind = rest ∙ ap (λ (j : ℕ). drop j s) n; are = refl }
+      reply = record { few = omega arith; short = omega arith; long = omega arith; behind = rest ∙ ap (λ (j : ℕ). drop j s) n; are = refl };
     }
 
 error-lies : (s : List ℕ) (c : Content) (t : List ℕ) → 16 ≤ length s → errorBody (wordAt s 0) (wordAt s 8) (drop 16 s) ≡ done c t → Lies s c t
@@ -162,21 +164,25 @@ error-lies s c t long e = coded (wordOf (drop 16 s)) refl e
   where
     front : length (drop 16 s) ≡ length s - 16
     front = length-drop 16 s
+
     ended : (x : ErrorKind) (u : List ℕ) (end : ℕ) → 20 ≤ length s → end ≤ length s → u ≡ drop end s → done (errorContent x (wordAt s 0) (wordAt s 8)) u ≡ done c t → Lies s c t
     ended x u end h fits rest q =
         let is : c ≡ errorContent x (wordAt s 0) (wordAt s 8) = cc in
         let same : t ≡ u = cc in
         rw (is, same) (bare-lies x s u end h fits rest)
+
     upper : (low : ℕ) → 20 ≤ length s → (w : Word) → wordOf (drop 8 (drop 16 s)) ≡ w →
         afterWord w (λ high. done (errorContent (error.Version low high) (wordAt s 0) (wordAt s 8)) (drop 12 (drop 16 s))) ≡ done c t → Lies s c t
     upper low h (word.Refused n) r q = absurd (never q)
     upper low h (word.Value high) r q =
         let room = word-room (drop 8 (drop 16 s)) high r in
         ended (error.Version low high) (drop 12 (drop 16 s)) 28 h (omega (arith, front, length-drop 8 (drop 16 s))) (drop-drop 12 16 s) q
+
     lower : 20 ≤ length s → (w : Word) →
         afterWord w (λ low. afterWord (wordOf (drop 8 (drop 16 s))) (λ high. done (errorContent (error.Version low high) (wordAt s 0) (wordAt s 8)) (drop 12 (drop 16 s)))) ≡ done c t → Lies s c t
     lower h (word.Refused n) q = absurd (never q)
     lower h (word.Value low) q = upper low h (wordOf (drop 8 (drop 16 s))) refl q
+
     chosen : 20 ≤ length s → (first second : Bool) →
         cond first
         (afterWord (wordOf (drop 4 (drop 16 s))) (λ low. afterWord (wordOf (drop 8 (drop 16 s))) (λ high. done (errorContent (error.Version low high) (wordAt s 0) (wordAt s 8)) (drop 12 (drop 16 s)))))
@@ -184,6 +190,7 @@ error-lies s c t long e = coded (wordOf (drop 16 s)) refl e
     chosen h true y q = lower h (wordOf (drop 4 (drop 16 s))) q
     chosen h false true q = ended error.Chunk (drop 4 (drop 16 s)) 20 h h (drop-drop 4 16 s) q
     chosen h false false q = absurd (never q)
+
     coded : (w : Word) → wordOf (drop 16 s) ≡ w →
         afterWord w (λ code. cond (eqb code 1)
         (afterWord (wordOf (drop 4 (drop 16 s))) (λ low. afterWord (wordOf (drop 8 (drop 16 s))) (λ high. done (errorContent (error.Version low high) (wordAt s 0) (wordAt s 8)) (drop 12 (drop 16 s)))))
@@ -206,6 +213,7 @@ frame-lies s c t e =
         let d = both p q in
         let f = required (eqb (length (d .behind)) 0) _ _ (d .then) in
         d .is ∙ f .1
+
     go : (zeroth first third fourth : Bool) → 16 ≤ length s →
         cond zeroth (threeParts Msg (wordAt s 0) (wordAt s 8) (drop 16 s))
         (cond first (nothingBehind (threeParts Nomsg (wordAt s 0) (wordAt s 8) (drop 16 s)))
@@ -299,16 +307,16 @@ abbrev pub builtFrom : List ℕ → Shape → Header
 builtFrom s shape = record {
   reads = record { segments = stored zeroReads 0 (each 24 markedSegmentAt (shape .reads) (drop 16 s)); count = shape .reads };
   writes =
-    withChunks 0 0 (record { segments = replicate 16 zeroSegment; counts = replicate 4 0; chunks = shape .chunks })
-    (chunksAt (shape .chunks) (drop (20 + shape .reads * 24) s));
+      withChunks 0 0 (record { segments = replicate 16 zeroSegment; counts = replicate 4 0; chunks = shape .chunks })
+      (chunksAt (shape .chunks) (drop (20 + shape .reads * 24) s));
   reply = record {
     segments = stored (replicate 16 zeroSegment) 0 (each 16 (λ v. segmentAt v 0) (shape .replies) (drop (shape .end - shape .replies * 16) s));
     count = shape .replies;
-    present = shape .present
+    present = shape .present;
   };
   kind = shape .kind;
   xid = wordAt s 0;
-  credit = wordAt s 8
+  credit = wordAt s 8;
 }
 
 built-writes : (cs : List (List Segment)) → length cs ≤ 4 → length (joined (λ w. w) cs) ≤ 16 →
@@ -335,20 +343,24 @@ built s shape f = rw (f .read, f .shape-is)
   where
     c : Content
     c = f .content
+
     l : Lies s (f .content) (f .behind)
     l = f .lies
+
     reads : record { segments = stored zeroReads 0 (each 24 markedSegmentAt (length (c .reads)) (drop 16 s)); count = length (c .reads) } ≡ readListOf (c .reads)
     reads =
         let p = ap (stored zeroReads 0) (sym (l .reads-are)) ∙ stored-padded 16 (record { position = 0; target = zeroSegment }) (c .reads) (l .reads-few) in
         λ i. record { segments = p i; count = length (c .reads) }
+
     writes : withChunks 0 0 (record { segments = replicate 16 zeroSegment; counts = replicate 4 0; chunks = length (c .writes) }) (chunksAt (length (c .writes)) (drop (20 + length (c .reads) * 24) s)) ≡ writeListOf (c .writes)
     writes =
         ap (withChunks 0 0 (record { segments = replicate 16 zeroSegment; counts = replicate 4 0; chunks = length (c .writes) })) (sym (l .writes-are))
         ∙ built-writes (c .writes) (l .writes-few) (l .writes-within)
+
     reply : record {
       segments = stored (replicate 16 zeroSegment) 0 (each 16 (λ v. segmentAt v 0) (replies (c .reply)) (drop (length s - length (f .behind) - replies (c .reply) * 16) s));
       count = replies (c .reply);
-      present = isPresent (c .reply)
+      present = isPresent (c .reply);
     } ≡ replyChunkOf (c .reply)
     reply = built-reply (c .reply) _ (l .reply .few) (l .reply .are)
 
@@ -363,7 +375,7 @@ pub built-by : (s : List ℕ) (shape : Shape) → Found s shape → (rs : List R
       reply = record { segments = ps; count = shape .replies; present = shape .present };
       kind = shape .kind;
       xid = x;
-      credit = y
+      credit = y;
     } ≡ readAnswer (readFrame s) .header
 built-by s shape f rs w ps x y a b c d e =
     (λ i. record {
@@ -372,7 +384,7 @@ built-by s shape f rs w ps x y a b c d e =
       reply = record { segments = c i; count = shape .replies; present = shape .present };
       kind = shape .kind;
       xid = d i;
-      credit = e i
+      credit = e i;
     })
     ∙ built s shape f
 

@@ -69,7 +69,7 @@ module _ (s : List ℕ) (r : ListWalk) (long : 16 ≤ length s) (is : r ≡ list
         found = k .list;
         many = omega (arith, k .many);
         fits = omega arith;
-        read = k .read ∙ ap (done (k .list)) (a .behind ∙ drop-drop (4 + length (k .list) * 24) 16 s ∙ ap (λ (j : ℕ). drop j s) p)
+        read = k .read ∙ ap (done (k .list)) (a .behind ∙ drop-drop (4 + length (k .list) * 24) 16 s ∙ ap (λ (j : ℕ). drop j s) p);
       }
 
   pub reads-refused : (n : ℕ) → r ≡ list.Refused n → readList 16 0 (drop 16 s) ≡ refused n
@@ -96,7 +96,7 @@ module _ (s : List ℕ) (r : ListWalk) (from : ℕ) (fits : from ≤ length s) (
         found = k .list;
         many = omega (arith, k .many);
         fits = omega (arith, length-drop from s);
-        read = k .read ∙ ap (done (k .list)) (suffix s (drop from s) (k .behind) from fits refl short (a .behind) ∙ ap (λ (j : ℕ). drop (length s - j) s) rest)
+        read = k .read ∙ ap (done (k .list)) (suffix s (drop from s) (k .behind) from fits refl short (a .behind) ∙ ap (λ (j : ℕ). drop (length s - j) s) rest);
       }
 
   pub writes-refused : (n : ℕ) → r ≡ list.Refused n → writeList 4 16 (drop from s) ≡ refused n
@@ -131,7 +131,7 @@ module _ (s : List ℕ) (r : ChunkStep) (p : ℕ) (fits : p ≤ length s) (is : 
         many = a .many;
         few = a .few;
         long = omega (arith, a .long, length-drop p s);
-        read = a .read ∙ ap (done (some (a .chunk))) (drop-drop (8 + m * 16) p s ∙ ap (λ (j : ℕ). drop j s) n)
+        read = a .read ∙ ap (done (some (a .chunk))) (drop-drop (8 + m * 16) p s ∙ ap (λ (j : ℕ). drop j s) n);
       }
 
 -- The three parts of a frame, by how far their reading came.

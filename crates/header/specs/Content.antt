@@ -65,5 +65,5 @@ contentOf h = record {
   credit = h .credit;
   reads = take (h .reads .count) (h .reads .segments);
   writes = runs (take (h .writes .chunks) (h .writes .counts)) (h .writes .segments);
-  reply = replyOf (h .reply .present) (take (h .reply .count) (h .reply .segments))
+  reply = replyOf (h .reply .present) (take (h .reply .count) (h .reply .segments));
 }

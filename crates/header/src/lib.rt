@@ -146,7 +146,10 @@ fn walk_error(s: &[u8]) -> FrameWalk
         if s.len() < 28 {
             return FrameWalk::Refused(wire::ENDS_INSIDE_FIELD);
         }
-        return error_shape(ErrorKind::Version(wire::word_at(s, 20), wire::word_at(s, 24)), 28);
+        return error_shape(
+            ErrorKind::Version(wire::word_at(s, 20), wire::word_at(s, 24)),
+            28,
+        );
     }
     if code == 2 {
         return error_shape(ErrorKind::Chunk, 20);
@@ -292,7 +295,12 @@ pub fn read_header(s: &[u8]) -> ReadAnswer
     let kind = shape.kind;
     if n + chunks + m == 0 {
         return ReadAnswer {
-            header: bare(kind, wire::word_at(s, 0), wire::word_at(s, 8), shape.present),
+            header: bare(
+                kind,
+                wire::word_at(s, 0),
+                wire::word_at(s, 8),
+                shape.present,
+            ),
             number: 0,
         };
     }
@@ -310,6 +318,6 @@ pub fn payload(s: &[u8]) -> &[u8]
     let FrameWalk::Found(shape) = walk else {
         return &s[0..0];
     };
-    let end = shape.end;
-    &s[end..]
+    let from = shape.end;
+    &s[from..]
 }

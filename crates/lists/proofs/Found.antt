@@ -70,7 +70,7 @@ reads-more room s x xs t h e r =
       few = omega (arith, r .few);
       long = omega (arith, r .long, length-drop 24 s, n);
       is = rw (← e) (ap (λ (l : List ReadSegment). x ∷ l) (r .is));
-      behind = r .behind ∙ rw (drop-drop (4 + length xs * 24) 24 s, n)
+      behind = r .behind ∙ rw (drop-drop (4 + length xs * 24) 24 s, n);
     }
 
 pub reads-of : (room last : ℕ) (s : List ℕ) (l : List ReadSegment) (t : List ℕ) → readList room last s ≡ done l t → ReadsAre room s l t
@@ -126,7 +126,7 @@ writes-more room left s c u cs t k r =
       fits = (subst (λ (n : ℕ). 8 + n * 16 ≤ length s) (k .many) long, subst (λ (n : ℕ). n ≤ left) (k .many) few, fits);
       is = ap (λ (x : List Segment). x ∷ cs) item ∙ ap (λ (l : List (List Segment)). each 16 (λ v. segmentAt v 0) (wordAt s 4) (drop 8 s) ∷ l) is;
       short = omega arith;
-      behind = r .behind ∙ ap (drop (length u - length t)) (k .behind) ∙ drop-drop (length u - length t) (8 + length c * 16) s ∙ ap (λ (n : ℕ). drop n s) skip
+      behind = r .behind ∙ ap (drop (length u - length t)) (k .behind) ∙ drop-drop (length u - length t) (8 + length c * 16) s ∙ ap (λ (n : ℕ). drop n s) skip;
     }
 
 pub writes-of : (room left : ℕ) (s : List ℕ) (cs : List (List Segment)) (t : List ℕ) → writeList room left s ≡ done cs t → WritesAre room left s cs t
@@ -205,5 +205,5 @@ module _ (s : List ℕ) where
             long = rw same at (k .long);
             many = same;
             read = reply-chunk s c u m q ∙ rw (k .behind, same);
-            is = k .is ∙ ap (λ (j : ℕ). each 16 (λ v. segmentAt v 0) j (drop 8 s)) same
+            is = k .is ∙ ap (λ (j : ℕ). each 16 (λ v. segmentAt v 0) j (drop 8 s)) same;
           }

@@ -125,6 +125,7 @@ read-front (suc room) last s = go (markerOf s) refl
         let rest : u ≡ drop 24 s = h .behind ∙ drop-drop 20 4 s in
         let room-is : suc room - 1 ≡ room = omega arith in
         goes x (rw (e, eqb·suc-zero room, q)) (omega arith) (omega (arith, h .long, length-drop 4 s)) is (rw (e, q, rest, room-is))
+
     go : (m : Marker) → markerOf s ≡ m → ReadFront (suc room) last s
     go (marker.Refused n) e = faulty n (rw e) (rw e)
     go marker.End e = ends (rw e) (end-room s e) (rw e)
@@ -170,11 +171,13 @@ chunk-front room left s = go (markerOf s) refl
     counting : markerOf s ≡ marker.Entry → 0 < room → (p : Parsed (List Segment)) → counted left (drop 4 s) ≡ p → ChunkFront room left s
     counting e h (refused n) q = uncounted n (rw (e, ne-eqb room 0 (omega arith), q)) e h q
     counting e h (done c u) q = goes c u (rw (e, ne-eqb room 0 (omega arith), q)) e h q
+
     entered : markerOf s ≡ marker.Entry → (b : Bool) → eqb room 0 ≡ b → ChunkFront room left s
     entered e true q = full (rw (e, q)) e (eqb-true room 0 q)
     entered e false q =
         let ne = eqb-false room 0 q in
         counting e (omega arith) (counted left (drop 4 s)) refl
+
     go : (m : Marker) → markerOf s ≡ m → ChunkFront room left s
     go (marker.Refused n) e = unmarked n (rw e) e
     go marker.End e = ends (rw e) e
@@ -202,7 +205,7 @@ chunk-of left s c u m e =
       few = rw n (h .few);
       long = omega (arith, length-drop 4 s);
       is = is;
-      behind = h .behind ∙ rw (← n, drop-drop (4 + length c * 16) 4 s, eight)
+      behind = h .behind ∙ rw (← n, drop-drop (4 + length c * 16) 4 s, eight);
     }
 
 -- One more entry in front is one more entry before the rest.
@@ -319,7 +322,7 @@ module _ (room left : ℕ) (s : List ℕ) where
             room-left = h;
             few = rw same (k .few);
             long = rw same (k .long);
-            rest = λ before. rw (same, writes-chunk left s room c u h m q, ← (k .behind)) (walk-prepend before c _)
+            rest = λ before. rw (same, writes-chunk left s room c u h m q, ← (k .behind)) (walk-prepend before c _);
           }
 
 -- What a count answers once its word was read.

@@ -13,8 +13,11 @@ ghost use Rattle.lists.specs.Steps.{entryStep, readStep, countStep, chun
 
 // "Limits: 16 read segments; 4 write chunks holding 16 segments together; 16 segments in the reply chunk"
 pub const READ_SEGMENTS: usize = 16;
+
 pub const WRITE_CHUNKS: usize = 4;
+
 pub const WRITE_SEGMENTS: usize = 16;
+
 pub const REPLY_SEGMENTS: usize = 16;
 
 // "a marker word above 1"
@@ -207,7 +210,13 @@ pub fn fill_reads(s: &[u8], n: usize) -> [ReadSegment; 16]
 }
 
 // The n segments from `from` on, stored behind `i` others.
-pub fn fill_segments(s: &[u8], from: usize, n: usize, i: usize, segments: [Segment; 16]) -> [Segment; 16]
+pub fn fill_segments(
+    s: &[u8],
+    from: usize,
+    n: usize,
+    i: usize,
+    segments: [Segment; 16],
+) -> [Segment; 16]
     requires { ⌜ (from + n * 16 ≤ length (now s)) × (i + n ≤ 16) ⌝ }
     ensures { λ r. ⌜ r ≡ stored segments i (each 16 (λ t. segmentAt t 0) n (drop from (now (s .entry)))) ⌝ }
 {
@@ -245,14 +254,14 @@ pub fn positions_number(segments: [ReadSegment; 16], n: usize) -> u32
     let mut last: u32 = 0;
     for k in 0..n {
         let x = segments[k];
-        let position = x.position;
-        if position % 4 != 0 {
+        let p = x.position;
+        if p % 4 != 0 {
             return POSITION_UNALIGNED;
         }
-        if position < last {
+        if p < last {
             return POSITION_FALLS;
         }
-        last = position;
+        last = p;
     }
     0
 }

@@ -18,6 +18,7 @@ pub const READ_SEGMENT_BYTES: usize = 20;
 pub const ENDS_INSIDE_FIELD: u32 = 5;
 
 // Memory that the other side registered.
+#[repr(C)]
 pub struct Segment {
     pub handle: u32,
     pub length: u32,
@@ -25,6 +26,7 @@ pub struct Segment {
 }
 
 // A segment to be pulled, and where in the message its bytes go.
+#[repr(C)]
 pub struct ReadSegment {
     pub position: u32,
     pub target: Segment,

@@ -8,11 +8,13 @@ use lists::WriteList;
 use wire::ReadSegment;
 use wire::Segment;
 ghost use mathlib.Core.Path.{_≡_};
+ghost use mathlib.Core.Bool.{true, cond};
+ghost use mathlib.Core.List.{List, _++_};
 ghost use Prim.Native.Nat.{ℕ, _+_, _*_, _-_, _≤_};
 ghost use lib.ListN.{length, take, drop};
 ghost use Rattle.wire.specs.Wire.{stored, joined, wordBytes, segmentBytes};
-ghost use Rattle.header.specs.Content.{contentOf, runs};
-ghost use Rattle.writer.specs.Bytes.{entryBytes, chunkBytes, readListBytes, writeListBytes, replyBytes, errorBytes, fixedBytes, procedureOf, headerBytes};
+ghost use Rattle.header.specs.Content.{contentOf, runs, replyOf};
+ghost use Rattle.writer.specs.Bytes.{entryBytes, chunkBytes, readListBytes, writeListBytes, replyBytes, errorBytes, fixedBytes, procedureOf, restBytes, partsOf, headerBytes};
 ghost use Rattle.writer.specs.Write.{bareIfError, total, withinLimits, writeNumber, WritesHeader};
 
 // "kind and lists do not fit"
@@ -21,6 +23,7 @@ pub const KIND_AND_LISTS: u32 = 12;
 pub const BUFFER_SHORT: u32 = 16;
 // "a header to be written is longer than 1,024 bytes"
 pub const HEADER_LONG: u32 = 21;
+
 pub const LONGEST_HEADER: usize = 1024;
 
 pub struct WriteAnswer {
@@ -82,6 +85,7 @@ fn within_limits(reads: u32, chunks: u32, counts: [u32; 4], present: bool, repli
 // The bytes of a reply chunk, or of its absence.
 fn reply_length(present: bool, count: usize) -> usize
     requires { ⌜ count ≤ 16 ⌝ }
+    ensures { λ r. ⌜ r ≡ cond present (8 + count * 16) 4 ⌝ }
 {
     if present {
         return 8 + count * 16;
@@ -97,7 +101,9 @@ fn lists_length(reads: usize, chunks: usize, segments: usize, reply: usize) -> u
     (reads * 24 + 4) + ((chunks * 8 + segments * 16 + 4) + reply)
 }
 
-fn error_length(e: ErrorKind) -> usize {
+fn error_length(e: ErrorKind) -> usize
+    ensures { λ r. ⌜ r ≡ length (errorBytes e) ⌝ }
+{
     match e {
         ErrorKind::Version(_, _) => 12,
         ErrorKind::Chunk => 4,
@@ -105,7 +111,17 @@ fn error_length(e: ErrorKind) -> usize {
 }
 
 // How many bytes a header within its limits takes.
-fn header_length(kind: Kind, reads: usize, chunks: usize, counts: [u32; 4], present: bool, replies: usize) -> usize {
+fn header_length(
+    kind: Kind,
+    reads: usize,
+    chunks: usize,
+    counts: [u32; 4],
+    present: bool,
+    replies: usize,
+) -> usize
+    requires { ⌜ (reads ≤ 16) × (chunks ≤ 4) × (total (take chunks counts) ≤ 16) × (replies ≤ 16) ⌝ }
+    ensures { λ r. ⌜ ((parts : List ℕ) → length parts ≡ (reads * 24 + 4) + ((chunks * 8 + total (take chunks counts) * 16 + 4) + cond present (8 + replies * 16) 4) → r ≡ 16 + length (restBytes kind parts)) ⌝ }
+{
     let Kind::Error(e) = kind else {
         let segments = total_count(counts, chunks) as usize;
         return 16 + lists_length(reads, chunks, segments, reply_length(present, replies));
@@ -126,7 +142,13 @@ fn write_number(h: Header, room: usize) -> u32
     if !bare_if_error(kind, reads.count, writes.chunks, reply.present) {
         return KIND_AND_LISTS;
     }
-    if !within_limits(reads.count, writes.chunks, counts, reply.present, reply.count) {
+    if !within_limits(
+        reads.count,
+        writes.chunks,
+        counts,
+        reply.present,
+        reply.count,
+    ) {
         return lists::OVER_LIMIT;
     }
     let n = reads.count as usize;
@@ -134,7 +156,14 @@ fn write_number(h: Header, room: usize) -> u32
     if fault != 0 {
         return fault;
     }
-    let length = header_length(kind, n, writes.chunks as usize, counts, reply.present, reply.count as usize);
+    let length = header_length(
+        kind,
+        n,
+        writes.chunks as usize,
+        counts,
+        reply.present,
+        reply.count as usize,
+    );
     if LONGEST_HEADER < length {
         return HEADER_LONG;
     }
@@ -179,7 +208,13 @@ fn put_reads(out: &mut [u8], k: usize, segments: [ReadSegment; 16], n: usize)
 }
 
 // Writes the n chunks of a write list and its end; answers where it ends.
-fn put_writes(out: &mut [u8], k: usize, segments: [Segment; 16], counts: [u32; 4], n: usize) -> usize
+fn put_writes(
+    out: &mut [u8],
+    k: usize,
+    segments: [Segment; 16],
+    counts: [u32; 4],
+    n: usize,
+) -> usize
     requires { ⌜ (n ≤ 4) × (total (take n counts) ≤ 16) × (k + n * 8 + total (take n counts) * 16 + 4 ≤ length (now out)) ⌝ }
     ensures { λ r. ⌜ (r ≡ k + n * 8 + total (take n counts) * 16 + 4) × (now (out .exit) ≡ stored (now (out .entry)) k (writeListBytes (runs (take n counts) segments))) ⌝ }
 {
@@ -197,6 +232,8 @@ fn put_writes(out: &mut [u8], k: usize, segments: [Segment; 16], counts: [u32; 4
 
 // Writes a reply chunk, or its absence; answers where it ends.
 fn put_reply(out: &mut [u8], k: usize, segments: [Segment; 16], present: bool, n: usize) -> usize
+    requires { ⌜ (n ≤ 16) × (k + cond present (8 + n * 16) 4 ≤ length (now out)) ⌝ }
+    ensures { λ r. ⌜ (r ≡ k + cond present (8 + n * 16) 4) × (now (out .exit) ≡ stored (now (out .entry)) k (replyBytes (replyOf present (take n segments)))) ⌝ }
 {
     if present {
         put_chunk(out, k, segments, 0, n);
@@ -207,7 +244,10 @@ fn put_reply(out: &mut [u8], k: usize, segments: [Segment; 16], present: bool, n
 }
 
 // Writes what stands behind the fixed words of an ERROR header; answers where it ends.
-fn put_error(out: &mut [u8], k: usize, e: ErrorKind) -> usize {
+fn put_error(out: &mut [u8], k: usize, e: ErrorKind) -> usize
+    requires { ⌜ k + length (errorBytes e) ≤ length (now out) ⌝ }
+    ensures { λ r. ⌜ (r ≡ k + length (errorBytes e)) × (now (out .exit) ≡ stored (now (out .entry)) k (errorBytes e)) ⌝ }
+{
     match e {
         ErrorKind::Version(low, high) => {
             wire::put_word(out, k, 1);
@@ -244,7 +284,10 @@ fn put_fixed(out: &mut [u8], kind: Kind, xid: u32, credit: u32)
 }
 
 // Writes the three parts behind the fixed words; answers where they end.
-fn put_lists(out: &mut [u8], reads: ReadList, writes: WriteList, reply: ReplyChunk) -> usize {
+fn put_lists(out: &mut [u8], reads: ReadList, writes: WriteList, reply: ReplyChunk) -> usize
+    requires { ⌜ (withinLimits (reads .count) (writes .chunks) (writes .counts) (reply .present) (reply .count) ≡ true) × (16 + length (partsOf reads writes reply) ≤ length (now out)) ⌝ }
+    ensures { λ r. ⌜ (r ≡ 16 + length (partsOf reads writes reply)) × (now (out .exit) ≡ stored (now (out .entry)) 16 (partsOf reads writes reply)) ⌝ }
+{
     let segments = reads.segments;
     let n = reads.count as usize;
     put_reads(out, 16, segments, n);
@@ -256,7 +299,10 @@ fn put_lists(out: &mut [u8], reads: ReadList, writes: WriteList, reply: ReplyChu
 }
 
 // Writes a header that has passed its checks; answers its length.
-fn put_header(out: &mut [u8], h: Header) -> usize {
+fn put_header(out: &mut [u8], h: Header) -> usize
+    requires { ⌜ (withinLimits (h .reads .count) (h .writes .chunks) (h .writes .counts) (h .reply .present) (h .reply .count) ≡ true) × (length (headerBytes (contentOf h)) ≤ length (now out)) ⌝ }
+    ensures { λ r. ⌜ (r ≡ length (headerBytes (contentOf h))) × (now (out .exit) ≡ stored (now (out .entry)) 0 (headerBytes (contentOf h))) ⌝ }
+{
     let kind = h.kind;
     put_fixed(out, kind, h.xid, h.credit);
     let Kind::Error(e) = kind else {

@@ -100,7 +100,7 @@ module _ (t : ℕ) where
   -- src/lib.rt:237:5
   fill-writes-requires : lts.Need-fill-writes-requires (claims t) (at t) reads.Post
   fill-writes-requires c κs =
-      let f = fit-next (c .before .before .before .before .before .before .args .n) (c .before .before .before .before .if1 .left) (now (c .before .before .before .before .before .before .args .s)) _ (c .before .before .before .before .before .before .pre .1 .2) in 
+      let f = fit-next (c .before .before .before .before .before .before .args .n) (c .before .before .before .before .if1 .left) (now (c .before .before .before .before .before .before .args .s)) _ (c .before .before .before .before .before .before .pre .1 .2) in
       let is = c .before .before .before .word-at .ensures in
       let left : 16 - (c .before .before .before .before .before .before .args .used + c .before .before .before .word-at .result) ≡ 16 - c .before .before .before .before .before .before .args .used - wordAt (now (c .before .before .before .before .before .before .args .s)) 4 = omega arith in
       (search needs, (search needs, omega (arith, f .1), rw (part-from, left, is) (f .2)))

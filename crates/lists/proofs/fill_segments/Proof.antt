@@ -68,7 +68,7 @@ loop-again c =
     let k = c .before .before .loop .k in
     let below : k < length (each 16 (λ t. segmentAt t 0) (c .before .before .before .before .args .n) (drop (c .before .before .before .before .args .from) (now (c .before .before .before .before .args .s)))) = rw length-each (search needs) in
     let item : segmentAt (now (c .before .before .before .before .args .s)) (c .before .before .before .before .args .from + k * 16) ≡ getD (each 16 (λ t. segmentAt t 0) (c .before .before .before .before .args .n) (drop (c .before .before .before .before .args .from) (now (c .before .before .before .before .args .s)))) k zeroSegment =
-        sym (item-at 16 (λ t. segmentAt t 0) (c .before .before .before .before .args .n) _ k _ (c .before .loop-test .taken) ∙ rw (drop-drop, segment-drop, add-zero)) in
+    sym (item-at 16 (λ t. segmentAt t 0) (c .before .before .before .before .args .n) _ k _ (c .before .loop-test .taken) ∙ rw (drop-drop, segment-drop, add-zero)) in
     (search needs, fill-next (c .before .before .before .before .args .segments) (each 16 (λ t. segmentAt t 0) (c .before .before .before .before .args .n) (drop (c .before .before .before .before .args .from) (now (c .before .before .before .before .args .s)))) (c .before .before .loop .to) (c .before .before .before .before .args .i) k (c .before .before .loop .inv .1) (c .segment-at .result) _ below (c .segment-at .ensures ∙ item))
 
 -- src/lib.rt:210:1

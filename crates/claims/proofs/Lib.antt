@@ -1,0 +1,10 @@
+pub mod Words
+pub mod Allowed
+pub mod ReadBack
+pub mod WriteBack
+pub mod FrameRead
+pub mod Contents
+pub mod Holding
+pub mod Writing
+pub mod RoundTrip
+pub mod Examples

@@ -1,0 +1,59 @@
+use native.Mathlib.Omega.{arith}
+use lib.ListN.{length, take, drop, length-drop}
+use Rattle.wire.specs.Wire.{wordBytes}
+use Rattle.writer.specs.Bytes.{chunkBytes, countedBytes}
+use lib.Seq.{length-take-le}
+use mathlib.Core.Path.{_≡_, refl}
+use Rattle.wire.proofs.Laws.{then}
+use borrow.Author.Needs.{needs}
+use Rattle.writer.proofs.put_chunk.Statement.{statement}
+use Rattle.writer.proofs.put_chunk.Tie as tie
+
+-- src/lib.rt:171:5
+put-word-requires : tie.Need-put-word-requires
+put-word-requires c κs = search needs
+
+-- src/lib.rt:172:25
+add-put-word : tie.Need-add-put-word
+add-put-word c = search needs
+
+-- src/lib.rt:172:32
+cast-put-word : tie.Need-cast-put-word
+cast-put-word c = search needs
+
+-- src/lib.rt:172:5
+put-word-requires-2 : tie.Need-put-word-requires-2
+put-word-requires-2 c κs = search needs
+
+-- src/lib.rt:173:23
+add-put-segments : tie.Need-add-put-segments
+add-put-segments c = search needs
+
+-- src/lib.rt:173:5
+put-segments-requires : tie.Need-put-segments-requires
+put-segments-requires c κs = search needs
+
+-- src/lib.rt:167:1
+same-length : tie.Need-same-length
+same-length c = search needs
+
+-- src/lib.rt:167:1
+returns : tie.Need-returns
+unfolding chunkBytes countedBytes wordBytes
+returns c =
+    let full : length (c .before .before .before .before .before .before .before .before .before .before .before .before .before .args .segments) ≡ 16 = search needs in
+    let count : length (take (c .before .before .before .before .before .before .before .before .before .before .before .before .before .args .n) (drop (c .before .before .before .before .before .before .before .before .before .before .before .before .before .args .i) (c .before .before .before .before .before .before .before .before .before .before .before .before .before .args .segments))) ≡ c .before .before .before .before .before .before .before .before .before .before .before .before .before .args .n = length-take-le _ _ (rw length-drop (omega arith)) in
+    rw count (then _ _ _ _ _ _ _ (then _ _ _ _ _ _ _ (c .before .before .before .before .before .before .before .before .before .before .put-word .ensures) (c .before .before .before .before .before .before .put-word2 .ensures) refl) (c .before .before .put-segments .ensures) refl)
+
+pub put-chunk-spec : {M : Type 1} → statement M
+put-chunk-spec =
+    tie.close
+    (tie.spec
+    put-word-requires
+    add-put-word
+    cast-put-word
+    put-word-requires-2
+    add-put-segments
+    put-segments-requires
+    same-length
+    returns)

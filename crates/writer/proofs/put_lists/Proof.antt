@@ -1,0 +1,77 @@
+use Rattle.wire.proofs.Laws.{then}
+use native.Mathlib.Omega.{arith}
+use Rattle.writer.proofs.Laws.{Passed, passed, parts-length}
+use borrow.Author.Needs.{needs}
+use Rattle.writer.proofs.put_lists.Statement.{statement}
+use Rattle.writer.proofs.put_lists.Tie as tie
+
+-- What is known of the three parts.
+known : (c : tie.Start) → Passed (c .args .reads) (c .args .writes) (c .args .reply)
+known c = passed (c .args .reads) (c .args .writes) (c .args .reply) _ _ _ (c .good .1 .0) (c .good .1 .1 .0) (c .good .1 .1 .1 .0) (c .pre .0)
+
+-- src/lib.rt:265:13
+cast-n : tie.Need-cast-n
+cast-n c = search needs
+
+-- src/lib.rt:266:5
+put-reads-requires : tie.Need-put-reads-requires
+put-reads-requires c κs =
+    let k = known (c .before .before .before .before) in
+    let size = parts-length (c .before .before .before .before .args .reads) (c .before .before .before .before .args .writes) (c .before .before .before .before .args .reply) k in
+    search needs
+
+-- src/lib.rt:269:36
+mul-put-writes : tie.Need-mul-put-writes
+mul-put-writes c = search needs
+
+-- src/lib.rt:269:31
+add-put-writes : tie.Need-add-put-writes
+add-put-writes c = search needs
+
+-- src/lib.rt:269:60
+cast-put-writes : tie.Need-cast-put-writes
+cast-put-writes c = search needs
+
+-- src/lib.rt:269:9
+put-writes-requires : tie.Need-put-writes-requires
+put-writes-requires c κs =
+    let k = known (c .before .before .before .before .before .before .before .before .before .before .before) in
+    let size = parts-length (c .before .before .before .before .before .before .before .before .before .before .before .args .reads) (c .before .before .before .before .before .before .before .before .before .before .before .args .writes) (c .before .before .before .before .before .before .before .before .before .before .before .args .reply) k in
+    search needs
+
+-- src/lib.rt:271:49
+cast-put-reply : tie.Need-cast-put-reply
+cast-put-reply c = search needs
+
+-- src/lib.rt:271:5
+put-reply-requires : tie.Need-put-reply-requires
+put-reply-requires c κs =
+    let k = known (c .before .before .before .before .before .before .before .before .before .before .before .before .before .before .before .before .before) in
+    let size = parts-length (c .before .before .before .before .before .before .before .before .before .before .before .before .before .before .before .before .before .args .reads) (c .before .before .before .before .before .before .before .before .before .before .before .before .before .before .before .before .before .args .writes) (c .before .before .before .before .before .before .before .before .before .before .before .before .before .before .before .before .before .args .reply) k in
+    search needs
+
+-- src/lib.rt:260:1
+same-length : tie.Need-same-length
+same-length c = search needs
+
+-- src/lib.rt:260:1
+returns : tie.Need-returns
+returns c =
+    let k = known (c .before .before .before .before .before .before .before .before .before .before .before .before .before .before .before .before .before .before .before .before) in
+    let size = parts-length (c .before .before .before .before .before .before .before .before .before .before .before .before .before .before .before .before .before .before .before .before .args .reads) (c .before .before .before .before .before .before .before .before .before .before .before .before .before .before .before .before .before .before .before .before .args .writes) (c .before .before .before .before .before .before .before .before .before .before .before .before .before .before .before .before .before .before .before .before .args .reply) k in
+    (omega arith, then _ _ _ _ _ _ _ (c .before .before .before .before .before .before .before .before .before .before .before .before .before .before .before .put-reads .ensures) (then _ _ _ _ _ _ _ (c .before .before .before .before .before .before .before .before .put-writes .ensures .1) (c .before .before .put-reply .ensures .1) (omega arith)) (omega arith))
+
+pub put-lists-spec : {M : Type 1} → statement M
+put-lists-spec =
+    tie.close
+    (tie.spec
+    cast-n
+    put-reads-requires
+    mul-put-writes
+    add-put-writes
+    cast-put-writes
+    put-writes-requires
+    cast-put-reply
+    put-reply-requires
+    same-length
+    returns)

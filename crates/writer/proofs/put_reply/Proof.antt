@@ -1,0 +1,63 @@
+use Rattle.writer.specs.Bytes.{replyBytes}
+use native.Mathlib.Omega.{arith}
+use mathlib.Core.Path.{refl}
+use borrow.Author.Needs.{needs}
+use Rattle.writer.proofs.put_reply.Statement.{statement}
+use Rattle.writer.proofs.put_reply.Tie as tie
+
+-- src/lib.rt:212:9
+put-chunk-requires : tie.Need-put-chunk-requires
+put-chunk-requires c κs = let h = simp (c .before .if1 .taken) at (c .before .before .before .pre .1) in search needs
+
+-- src/lib.rt:213:16
+add-result : tie.Need-add-result
+add-result c = search needs
+
+-- src/lib.rt:213:24
+mul-result : tie.Need-mul-result
+mul-result c = search needs
+
+-- src/lib.rt:213:16
+add-result-2 : tie.Need-add-result-2
+add-result-2 c = search needs
+
+-- src/lib.rt:213:9
+same-length : tie.Need-same-length
+same-length c = search needs
+
+-- src/lib.rt:213:9
+returns : tie.Need-returns
+unfolding replyBytes
+returns c = rw (c .before .before .before .before .if1 .taken) (omega arith, c .before .before .put-chunk .ensures)
+
+-- src/lib.rt:215:5
+put-word-requires : tie.Need-put-word-requires
+put-word-requires c κs = let h = simp (c .before .if1 .left) at (c .before .before .before .pre .1) in search needs
+
+-- src/lib.rt:216:5
+add-result-3 : tie.Need-add-result-3
+add-result-3 c = search needs
+
+-- src/lib.rt:207:1
+same-length-2 : tie.Need-same-length-2
+same-length-2 c = search needs
+
+-- src/lib.rt:207:1
+returns-2 : tie.Need-returns-2
+unfolding replyBytes
+returns-2 c = rw (c .before .before .before .before .if1 .left) (refl, c .before .before .put-word .ensures)
+
+pub put-reply-spec : {M : Type 1} → statement M
+put-reply-spec =
+    tie.close
+    (tie.spec
+    put-chunk-requires
+    add-result
+    mul-result
+    add-result-2
+    same-length
+    returns
+    put-word-requires
+    add-result-3
+    same-length-2
+    returns-2)

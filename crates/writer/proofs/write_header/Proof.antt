@@ -1,0 +1,39 @@
+use Rattle.writer.specs.Write.{writeAnswer, writtenInto}
+use borrow.Author.Tests.{ne-eqb}
+use mathlib.Core.Path.{sym, _∙_}
+use Rattle.writer.proofs.Laws.{accepted, stored-front}
+use borrow.Author.Needs.{needs}
+use Rattle.writer.proofs.write_header.Statement.{statement}
+use Rattle.writer.proofs.write_header.Tie as tie
+
+-- src/lib.rt:294:9
+write-number-requires : tie.Need-write-number-requires
+write-number-requires c κs = search needs
+
+-- src/lib.rt:296:9
+returns : tie.Need-returns
+unfolding writeAnswer writtenInto
+returns c = record { answer = rw (← (c .before .write-number .ensures), ne-eqb _ _ (c .if1 .taken)); buffer = rw (← (c .before .write-number .ensures), ne-eqb _ _ (c .if1 .taken)) }
+
+-- src/lib.rt:298:9
+put-header-requires : tie.Need-put-header-requires
+put-header-requires c κs = accepted (c .before .before .before .before .args .h) _ (sym (c .before .before .write-number .ensures) ∙ c .before .if1 .left)
+
+-- src/lib.rt:291:1
+same-length : tie.Need-same-length
+same-length c = search needs
+
+-- src/lib.rt:291:1
+returns-2 : tie.Need-returns-2
+unfolding writeAnswer writtenInto
+returns-2 c =
+    let zero = sym (c .before .before .before .before .before .write-number .ensures) ∙ c .before .before .before .before .if1 .left in
+    let fits = accepted (c .before .before .before .before .before .before .before .args .h) _ zero .1 in
+    record {
+      answer = rw (zero, c .before .before .put-header .ensures .0);
+      buffer = rw zero (c .before .before .put-header .ensures .1 ∙ stored-front _ _ fits);
+    }
+
+pub write-header-spec : {M : Type 1} → statement M
+write-header-spec =
+    tie.close (tie.spec write-number-requires returns put-header-requires same-length returns-2)

@@ -1,0 +1,14 @@
+use std::{env, fs};
+
+fn main() {
+    println!("cargo:rerun-if-changed=build.rs");
+    println!("cargo:rerun-if-env-changed=EOS_LIB_DIR");
+    println!("cargo:rustc-check-cfg=cfg(port)");
+    // Without the folder only the library half (oracle, plain, tests) builds.
+    let Ok(folder) = env::var("EOS_LIB_DIR") else { return };
+    let folder = fs::canonicalize(&folder).expect("EOS_LIB_DIR is no folder");
+    println!("cargo:rerun-if-changed={}", folder.join("libport.a").display());
+    println!("cargo:rustc-link-search=native={}", folder.display());
+    println!("cargo:rustc-link-lib=static=port");
+    println!("cargo:rustc-cfg=port");
+}

@@ -1,0 +1,56 @@
+//! Compares the static library's reading and writing of headers with a second implementation.
+//! Build with EOS_LIB_DIR naming the folder of libport.a; options: --cases N (cases in each
+//! random family), --seed S, --vectors FILE (else what EOS_VECTORS names).
+//! One line for each family, then the numbers seen and the total; the first difference is
+//! printed with its input and ends the run with status 1, as does a number never seen.
+
+#[cfg(not(port))]
+compile_error!("set EOS_LIB_DIR to the folder that holds libport.a");
+
+use compare::check::Checker;
+use compare::{abi::Library, cases, vectors};
+use std::process::ExitCode;
+
+fn main() -> ExitCode {
+    let (mut count, mut seed, mut file) = (200_000, 0x5eed, vectors::usual_file());
+    let mut arguments = std::env::args().skip(1);
+    while let Some(name) = arguments.next() {
+        let value = arguments.next().unwrap_or_default();
+        let number = value.parse::<u64>();
+        match (name.as_str(), number) {
+            ("--cases", Ok(number)) => count = number,
+            ("--seed", Ok(number)) => seed = number,
+            ("--vectors", _) => file = value,
+            _ => {
+                eprintln!("usage: compare [--cases N] [--seed S] [--vectors FILE]");
+                return ExitCode::from(2);
+            }
+        }
+    }
+    let vectors = match vectors::load(&file) {
+        Ok(vectors) => vectors,
+        Err(why) => {
+            eprintln!("{why}");
+            return ExitCode::from(2);
+        }
+    };
+    let mut check = Checker::new(Library, seed);
+    check.loud = true;
+    let outcome = vectors::run(&mut check, &vectors).and_then(|()| cases::run(&mut check, seed, count));
+    check.end_family();
+    if let Err(difference) = outcome {
+        println!("DIFFERENCE in family: {}\n{difference}", check.name());
+        return ExitCode::FAILURE;
+    }
+    for (name, numbers) in [("read", &check.read_numbers), ("write", &check.write_numbers)] {
+        let list: Vec<String> = numbers.iter().map(|(number, seen)| format!("{number}:{seen}")).collect();
+        println!("{name} numbers: {}", list.join(" "));
+    }
+    let unseen = check.unseen();
+    if !unseen.is_empty() {
+        println!("NEVER SEEN\n{}", unseen.join("\n"));
+        return ExitCode::FAILURE;
+    }
+    println!("{:<26}{:>10}", "total", check.total());
+    ExitCode::SUCCESS
+}

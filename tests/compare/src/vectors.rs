@@ -1,0 +1,96 @@
+//! The outside encodings: one JSON object a line, of a fixed and simple form.
+
+use crate::abi::flatten;
+use crate::check::{hex, Checker, Outcome, Port};
+use crate::oracle::{encode, read, Fault, Header, Kind, ReadSegment, Reply, Segment};
+use std::collections::BTreeMap;
+
+/// What stands between the outer brackets, parted at the commas of that depth.
+fn items(text: &str) -> Vec<&str> {
+    let mut depth = 0;
+    let comma = |c: char| {
+        depth += i32::from(c == '[') - i32::from(c == ']');
+        c == ',' && depth == 0
+    };
+    let inner = &text[1..text.len() - 1];
+    inner.split(comma).map(str::trim).filter(|item| !item.is_empty()).collect()
+}
+
+fn number<N: TryFrom<u64>>(text: &str) -> Option<N> {
+    N::try_from(text.parse().ok()?).ok()
+}
+
+fn segment(fields: &[&str]) -> Option<Segment> {
+    let [handle, length, offset] = fields else { return None };
+    Some(Segment { handle: number(handle)?, length: number(length)?, offset: number(offset)? })
+}
+
+fn segments(text: &str) -> Option<Vec<Segment>> {
+    items(text).into_iter().map(|item| segment(&items(item))).collect()
+}
+
+fn read_segment(text: &str) -> Option<ReadSegment> {
+    let fields = items(text);
+    Some(ReadSegment { position: number(fields.first()?)?, target: segment(&fields[1..])? })
+}
+
+fn vector(line: &str) -> Option<(Vec<u8>, Header)> {
+    let fields: BTreeMap<&str, &str> =
+        items(line).into_iter().map(|item| item.split_once(':')).collect::<Option<_>>()?;
+    let field = |name: &str| fields.get(name).copied();
+    let digits = field("\"frame\"")?.trim_matches('"');
+    let byte = |i| u8::from_str_radix(digits.get(i..i + 2)?, 16).ok();
+    let frame = (0..digits.len()).step_by(2).map(byte).collect::<Option<_>>()?;
+    let (xid, credit) = (number(field("\"xid\"")?)?, number(field("\"credit\"")?)?);
+    let kind = match (field("\"procedure\"")?, field("\"error\"")) {
+        ("0", None) => Kind::Msg,
+        ("1", None) => Kind::Nomsg,
+        // The file does not list low and high; its one such frame was made with 1 and 1.
+        ("4", Some("\"vers\"")) => Kind::Error(Fault::Version { low: 1, high: 1 }),
+        ("4", Some("\"chunk\"")) => Kind::Error(Fault::Chunk),
+        _ => return None,
+    };
+    let mut header = Header { xid, credit, kind, ..Header::default() };
+    if !matches!(kind, Kind::Error(_)) {
+        header.reads = items(field("\"reads\"")?).into_iter().map(read_segment).collect::<Option<_>>()?;
+        header.writes = items(field("\"writes\"")?).into_iter().map(segments).collect::<Option<_>>()?;
+        header.reply = match field("\"reply\"")? {
+            "null" => Reply::default(),
+            list => Reply { present: true, segments: segments(list)? },
+        };
+    }
+    Some((frame, header))
+}
+
+/// EOS_VECTORS, else the copy in this package.
+pub fn usual_file() -> String {
+    let beside = concat!(env!("CARGO_MANIFEST_DIR"), "/data/headers.jsonl");
+    std::env::var("EOS_VECTORS").unwrap_or(beside.to_string())
+}
+
+/// Frames with the fields that were handed to the outside encoder.
+pub fn load(file: &str) -> Result<Vec<(Vec<u8>, Header)>, String> {
+    let text = std::fs::read_to_string(file).map_err(|e| format!("vectors {file}: {e}"))?;
+    text.lines().map(|line| vector(line.trim()).ok_or(format!("vectors {file}: {line}"))).collect()
+}
+
+/// The oracle first against the fields, then the implementation against the oracle.
+pub fn run<P: Port>(check: &mut Checker<P>, vectors: &[(Vec<u8>, Header)]) -> Outcome {
+    check.family("read vectors");
+    for (frame, header) in vectors {
+        match read(frame) {
+            Ok((read, payload)) if read == *header && payload.is_empty() => check.read(frame)?,
+            other => return Err(format!("oracle: {other:?}, want {header:?}\nframe: {}", hex(frame))),
+        }
+    }
+    check.family("write vectors");
+    for (frame, header) in vectors {
+        if encode(header) != *frame {
+            return Err(format!("oracle writes another frame than {}", hex(frame)));
+        }
+        for room in [0, frame.len() - 1, frame.len(), frame.len() + 1, 2048] {
+            check.write(&flatten(header), room)?;
+        }
+    }
+    Ok(())
+}
