@@ -5,7 +5,7 @@ use mathlib.Core.List.{List, [], map}
 use mathlib.Core.Option.{Option, none, some}
 use Prim.Native.Nat.{ℕ, _≤_}
 use lib.ListN.{length}
-use Rattle.lists.specs.Lists.{positions}
+use Rattle.lists.specs.Lists.{positionsNumber}
 use Rattle.header.specs.Content.{Content}
 use Rattle.writer.specs.Write.{total}
 use Rattle.claims.specs.RoundTrip.{Word32, All, SegmentFits, ReadSegmentFits, KindFits}
@@ -31,7 +31,7 @@ pub record Allowed (c : Content) : Type 0 where
   pub credit : Word32 (c .credit)
   pub reads : All ReadSegmentFits (c .reads)
   pub reads-limit : length (c .reads) ≤ 16
-  pub rising : positions 0 (c .reads) 0 ≡ 0
+  pub rising : positionsNumber 0 (c .reads) 0 ≡ 0
   pub writes : All (All SegmentFits) (c .writes)
   pub chunks-limit : length (c .writes) ≤ 4
   pub writes-limit : total (map length (c .writes)) ≤ 16

@@ -9,7 +9,7 @@ use native.Mathlib.Omega.{arith}
 use lib.ListN.{length, take, drop, length-drop, length-map}
 use lib.Seq.{take-append-seam, drop-append-seam, take-add, length-take-le}
 use Rattle.wire.specs.Wire.{joined}
-use Rattle.lists.specs.Steps.{zeroSegment}
+use Rattle.wire.specs.Wire.{zeroSegment, zeroReadSegment}
 use Rattle.header.specs.Content.{Content, padded, readListOf, replyChunkOf, headerOf, runs, replyOf, contentOf}
 use Rattle.writer.specs.Write.{total}
 use Rattle.claims.specs.RoundTrip.{All, zeroedReply, zeroed}
@@ -116,7 +116,7 @@ pub zeroed-same : (h : Header) → Within h → headerOf (contentOf h) ≡ zeroe
 unfolding headerOf contentOf zeroed
 zeroed-same h w = λ i. record {
   reads = record {
-    segments = padded 16 (record { position = 0; target = zeroSegment }) (take (h .reads .count) (h .reads .segments));
+    segments = padded 16 (zeroReadSegment) (take (h .reads .count) (h .reads .segments));
     count = length-take-le (h .reads .count) (h .reads .segments) (w .reads) i;
   };
   writes = record {

@@ -2,7 +2,7 @@
 -- Assumes nothing.
 use mathlib.Core.Path.{_≡_, refl}
 use Rattle.wire.specs.Wire.{wordAt, wordOf, joined, wordBytes, segmentBytes, readSegmentBytes}
-use Rattle.lists.specs.Lists.{markerOf, readList, writeList, replyChunk, positions}
+use Rattle.lists.specs.Lists.{markerOf, readList, writeList, replyChunk, positionsNumber}
 use Rattle.header.specs.Content.{headerOf, contentOf, runs}
 use Rattle.header.specs.Frame.{threeParts, byProcedure, readFrame}
 use Rattle.writer.specs.Bytes.{headerBytes, fixedBytes, readListBytes, writeListBytes, replyBytes, chunkBytes, countedBytes, entryBytes}
@@ -12,5 +12,5 @@ use Rattle.claims.specs.Examples.{Example, Holds, words, examples}
 
 -- "C1 to C13 are proved from the definitions as one list with one claim over it."
 pub worked : All Holds examples
-unfolding All words joined wordBytes readFrame byProcedure threeParts readList writeList replyChunk markerOf wordOf wordAt writeAnswer writeNumber withinLimits total positions headerOf contentOf runs headerBytes fixedBytes readListBytes writeListBytes replyBytes chunkBytes countedBytes entryBytes segmentBytes readSegmentBytes
+unfolding All words joined wordBytes readFrame byProcedure threeParts readList writeList replyChunk markerOf wordOf wordAt writeAnswer writeNumber withinLimits total positionsNumber headerOf contentOf runs headerBytes fixedBytes readListBytes writeListBytes replyBytes chunkBytes countedBytes entryBytes segmentBytes readSegmentBytes
 worked = ((refl, refl), ((refl, refl), ((refl, refl), ((refl, refl), ((refl, refl), (refl, tt))))))

@@ -12,11 +12,11 @@ use lib.Seq.{drop-drop}
 use lib.Dec.{leb, eqb}
 use Rattle.wire.specs.Wire.{wordAt, wordOf, wordBytes}
 use Rattle.lists.specs.Parsed.{Parsed, refused, done, require}
-use Rattle.lists.specs.Lists.{readList, positions, writeList, replyChunk}
+use Rattle.lists.specs.Lists.{readList, positionsNumber, writeList, replyChunk}
 use Rattle.header.specs.Content.{Content}
 use Rattle.header.specs.Frame.{threeParts, errorBody, errorContent, afterWord, nothingBehind, byProcedure, readFrame}
 use Rattle.writer.specs.Bytes.{readListBytes, writeListBytes, replyBytes, errorBytes, procedureOf, restBytes, fixedBytes, headerBytes}
-use Rattle.claims.specs.RoundTrip.{Bytes, Word32, All, ErrorFits, KindFits}
+use Rattle.claims.specs.RoundTrip.{AllBytes, Word32, All, ErrorFits, KindFits}
 use Rattle.writer.specs.Write.{total}
 use Rattle.header.specs.declared.Kind.{Kind}
 use Rattle.header.specs.declared.Kind.the-variants.{Msg, Nomsg, Error}
@@ -70,7 +70,7 @@ parts-read kind xid credit s u v t reads writes reply k x y r w p =
     }
 
 -- Three parts that were read are what stood there, and keep the rules.
-three-parts-done : (kind : Kind) (xid credit : ℕ) (s : List ℕ) (c : Content) (t : List ℕ) → Listed kind → Word32 xid → Word32 credit → Bytes s →
+three-parts-done : (kind : Kind) (xid credit : ℕ) (s : List ℕ) (c : Content) (t : List ℕ) → Listed kind → Word32 xid → Word32 credit → AllBytes s →
     threeParts kind xid credit s ≡ done c t → BodyRead kind xid credit s c t
 unfolding threeParts
 three-parts-done kind xid credit s c t k x y b e =
@@ -103,7 +103,7 @@ record ErrorRead (xid credit : ℕ) (s : List ℕ) (c : Content) (t : List ℕ) 
 -- What an ERROR header goes on with, read, makes its content.
 error-read : (e : ErrorKind) (xid credit : ℕ) (s t : List ℕ) → Word32 xid → Word32 credit → ErrorFits e → errorBytes e ++ t ≡ s →
     ErrorRead xid credit s (errorContent e xid credit) t
-unfolding All positions total
+unfolding All positionsNumber total
 error-read e xid credit s t x y f bytes =
     record {
       error = e;
@@ -129,7 +129,7 @@ error-read e xid credit s t x y f bytes =
     }
 
 -- The low and high of a version error that were read are what stood there.
-version-done : (xid credit : ℕ) (s : List ℕ) (c : Content) (t : List ℕ) → Word32 xid → Word32 credit → Bytes s → wordBytes 1 ++ drop 4 s ≡ s →
+version-done : (xid credit : ℕ) (s : List ℕ) (c : Content) (t : List ℕ) → Word32 xid → Word32 credit → AllBytes s → wordBytes 1 ++ drop 4 s ≡ s →
     afterWord (wordOf (drop 4 s)) (λ low. afterWord (wordOf (drop 8 s)) (λ high. done (errorContent (Version low high) xid credit) (drop 12 s))) ≡ done c t →
     ErrorRead xid credit s c t
 unfolding errorBytes
@@ -144,7 +144,7 @@ version-done xid credit s c t x y b one e =
     (error-read (Version (low .value) (high .value)) xid credit s (drop 12 s) x y (two .1, three .1) (simp (append-assoc, third, second) one))
 
 -- What an ERROR header goes on with that was read is what stood there.
-error-done : (xid credit : ℕ) (s : List ℕ) (c : Content) (t : List ℕ) → Word32 xid → Word32 credit → Bytes s → errorBody xid credit s ≡ done c t →
+error-done : (xid credit : ℕ) (s : List ℕ) (c : Content) (t : List ℕ) → Word32 xid → Word32 credit → AllBytes s → errorBody xid credit s ≡ done c t →
     ErrorRead xid credit s c t
 unfolding errorBody errorBytes
 error-done xid credit s c t x y b e =
@@ -182,7 +182,7 @@ record ProcedureRead (procedure xid credit : ℕ) (s : List ℕ) (c : Content) (
   body : BodyRead kind xid credit s c t
 
 -- What the procedure decided is what stood there.
-procedure-done : (procedure xid credit : ℕ) (s : List ℕ) (c : Content) (t : List ℕ) → Word32 xid → Word32 credit → Bytes s →
+procedure-done : (procedure xid credit : ℕ) (s : List ℕ) (c : Content) (t : List ℕ) → Word32 xid → Word32 credit → AllBytes s →
     byProcedure procedure xid credit s ≡ done c t → ProcedureRead procedure xid credit s c t
 unfolding byProcedure
 procedure-done n xid credit s c t x y b e = go (eqb n 0) (eqb n 1) (eqb n 3) (eqb n 4) refl refl refl e
@@ -219,7 +219,7 @@ pub record FrameRead (s : List ℕ) (c : Content) (t : List ℕ) : Type 0 where
   pub behind : Behind (c .kind) t
 
 -- The fixed words that were read are what stood there.
-fixed-front : (s : List ℕ) (kind : Kind) (xid credit : ℕ) (r : List ℕ) → Bytes s → 16 ≤ length s → wordAt s 4 ≡ 1 →
+fixed-front : (s : List ℕ) (kind : Kind) (xid credit : ℕ) (r : List ℕ) → AllBytes s → 16 ≤ length s → wordAt s 4 ≡ 1 →
     procedureOf kind ≡ wordAt s 12 → xid ≡ wordAt s 0 → credit ≡ wordAt s 8 → r ≡ drop 16 s → fixedBytes kind xid credit ++ r ≡ s
 unfolding fixedBytes
 fixed-front s kind xid credit r b long version p x y e =
@@ -228,7 +228,7 @@ fixed-front s kind xid credit r b long version p x y e =
     simp (append-assoc, e, p, word-front s 12 16 b refl long, y, word-front s 8 12 b refl (omega arith), v, x) (word-front s 0 4 b refl (omega arith))
 
 -- A frame that was read is its header bytes and its payload, and its content keeps the rules.
-pub frame-done : (s : List ℕ) (c : Content) (t : List ℕ) → Bytes s → readFrame s ≡ done c t → FrameRead s c t
+pub frame-done : (s : List ℕ) (c : Content) (t : List ℕ) → AllBytes s → readFrame s ≡ done c t → FrameRead s c t
 unfolding readFrame headerBytes
 frame-done s c t b e =
     let long = require-done (leb 16 (length s)) 1 _ c t e in

@@ -7,7 +7,7 @@ use Prim.Native.Nat.{ℕ, zero, suc, _-_, _≤_}
 use native.Mathlib.Omega.{arith}
 use lib.ListN.{length, replicate, length-append, length-replicate, length-map}
 use Rattle.wire.specs.Wire.{joined}
-use Rattle.lists.specs.Steps.{zeroSegment}
+use Rattle.wire.specs.Wire.{zeroSegment}
 use Rattle.header.specs.Content.{Content, padded, replyChunkOf, headerOf}
 use Rattle.writer.specs.Write.{total}
 use Rattle.claims.specs.RoundTrip.{Word32, All, SegmentFits, ReadSegmentFits, Representable}

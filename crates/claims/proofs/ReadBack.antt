@@ -12,7 +12,7 @@ use lib.Seq.{drop-drop}
 use lib.Dec.{leb, eqb}
 use Rattle.wire.specs.Wire.{wordAt, segmentAt, wordBytes, segmentBytes, readSegmentBytes, joined}
 use Rattle.lists.specs.Parsed.{done, check, each}
-use Rattle.lists.specs.Lists.{markerOf, readEntry, readList, positions, segments, counted, writeList, replyChunk}
+use Rattle.lists.specs.Lists.{markerOf, readEntry, readList, positionsNumber, segments, counted, writeList, replyChunk}
 use Rattle.writer.specs.Bytes.{entryBytes, countedBytes, chunkBytes, readListBytes, writeListBytes, replyBytes, errorBytes, procedureOf, restBytes, fixedBytes, headerBytes}
 use Rattle.writer.specs.Write.{total}
 use Rattle.claims.specs.RoundTrip.{Word32, All, SegmentFits, ReadSegmentFits, ErrorFits, KindFits}
@@ -43,18 +43,18 @@ pub check-passed : (holds : Bool) (n next : ℕ) → check holds (suc n) next �
 check-passed true n next e = (refl, e)
 check-passed false n next e = absurd (omega arith)
 
--- The rule of positions, at the first entry of a list and at the others.
+-- The rule of positionsNumber, at the first entry of a list and at the others.
 pub record Rises (last : ℕ) (x : ReadSegment) (l : List ReadSegment) : Type 0 where
   pub aligned : eqb (x .position % 4) 0 ≡ true
   pub above : leb last (x .position) ≡ true
-  pub onward : positions (x .position) l 0 ≡ 0
+  pub onward : positionsNumber (x .position) l 0 ≡ 0
 
 -- Positions that pass pass at the first entry and behind it.
-pub rises : (last : ℕ) (x : ReadSegment) (l : List ReadSegment) → positions last (x ∷ l) 0 ≡ 0 → Rises last x l
-unfolding positions
+pub rises : (last : ℕ) (x : ReadSegment) (l : List ReadSegment) → positionsNumber last (x ∷ l) 0 ≡ 0 → Rises last x l
+unfolding positionsNumber
 rises last x l e =
-    let a : (eqb (x .position % 4) 0 ≡ true) × (check (leb last (x .position)) 8 (positions (x .position) l 0) ≡ 0) = check-passed _ 8 _ e in
-    let b : (leb last (x .position) ≡ true) × (positions (x .position) l 0 ≡ 0) = check-passed _ 7 _ (a .1) in
+    let a : (eqb (x .position % 4) 0 ≡ true) × (check (leb last (x .position)) 8 (positionsNumber (x .position) l 0) ≡ 0) = check-passed _ 8 _ e in
+    let b : (leb last (x .position) ≡ true) × (positionsNumber (x .position) l 0 ≡ 0) = check-passed _ 7 _ (a .1) in
     record { aligned = a .0; above = b .0; onward = b .1 }
 
 -- An entry of the read list that was written is read.
@@ -70,7 +70,7 @@ unfolding readListBytes joined entryBytes
 read-entry-first x l r = simp append-assoc
 
 -- A read list that was written is read.
-pub read-list-back : (l : List ReadSegment) (r : List ℕ) (room last : ℕ) → All ReadSegmentFits l → length l ≤ room → positions last l 0 ≡ 0 →
+pub read-list-back : (l : List ReadSegment) (r : List ℕ) (room last : ℕ) → All ReadSegmentFits l → length l ≤ room → positionsNumber last l 0 ≡ 0 →
     readList room last (readListBytes l ++ r) ≡ done l r
 unfolding readList readListBytes joined All
 read-list-back [] r zero last f h p = simp (marker-end r, drop-word)

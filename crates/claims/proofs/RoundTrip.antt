@@ -11,7 +11,7 @@ use Rattle.header.specs.Content.{Content, headerOf, contentOf}
 use Rattle.header.specs.Frame.{readFrame, readAnswer, payloadOf}
 use Rattle.writer.specs.Bytes.{headerBytes}
 use Rattle.writer.specs.Write.{writeNumber, writeAnswer, writtenInto}
-use Rattle.claims.specs.RoundTrip.{Bytes, Representable, zeroed}
+use Rattle.claims.specs.RoundTrip.{AllBytes, Representable, zeroed}
 use Rattle.header.specs.declared.Kind.{Kind}
 use Rattle.header.specs.declared.Kind.the-variants.{Msg, Nomsg, Error}
 use Rattle.header.specs.declared.Header.{Header}
@@ -23,7 +23,7 @@ use Rattle.claims.proofs.Holding.{allowed-representable}
 use Rattle.claims.proofs.Writing.{write-passed, passed-write, passed-within, content-allowed, allowed-passed}
 
 -- A frame is its header bytes and then its payload.
-pub frame-is : (s : List ℕ) (c : Content) (t : List ℕ) → Bytes s → readFrame s ≡ done c t → headerBytes c ++ t ≡ s
+pub frame-is : (s : List ℕ) (c : Content) (t : List ℕ) → AllBytes s → readFrame s ≡ done c t → headerBytes c ++ t ≡ s
 frame-is s c t b e = frame-done s c t b e .bytes
 
 -- The struct of what a header holds, where that can be written, is the header with its unused places zeroed.
@@ -51,7 +51,7 @@ pub written-read-answer : (h : Header) (out : List ℕ) → Representable h → 
 written-read-answer h out r e = simp (written-read h out r e, headerOf-contentOf h (length out) r e) (refl, refl)
 
 -- "what was read, written again, gives the frame's bytes before its payload"
-pub read-written : (s out : List ℕ) (c : Content) (t : List ℕ) → Bytes s → readFrame s ≡ done c t → length s ≤ length out + length t →
+pub read-written : (s out : List ℕ) (c : Content) (t : List ℕ) → AllBytes s → readFrame s ≡ done c t → length s ≤ length out + length t →
     (writeAnswer (headerOf c) (length out) ≡ record { number = 0; length = length s - length t })
     × (writtenInto (headerOf c) out ≡ take (length s - length t) s ++ drop (length s - length t) out)
 unfolding writeAnswer writtenInto
@@ -65,5 +65,5 @@ read-written s out c t b e room =
     simp (written, contentOf-headerOf c, long, front) (refl, refl)
 
 -- A header that was read can be held, and so it can be written and read back.
-pub read-representable : (s : List ℕ) (c : Content) (t : List ℕ) → Bytes s → readFrame s ≡ done c t → Representable (headerOf c)
+pub read-representable : (s : List ℕ) (c : Content) (t : List ℕ) → AllBytes s → readFrame s ≡ done c t → Representable (headerOf c)
 read-representable s c t b e = allowed-representable c (frame-done s c t b e .allowed)

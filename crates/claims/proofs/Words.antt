@@ -9,7 +9,7 @@ use borrow.Author.Tests.{le-leb}
 use lib.ListN.{length, drop, length-drop}
 use lib.Seq.{getD-drop, drop-drop}
 use Rattle.wire.specs.Wire.{joinBytes, wordAt, wordOf, segmentAt, readSegmentAt, wordBytes, segmentBytes, readSegmentBytes}
-use Rattle.claims.specs.RoundTrip.{Bytes, Word32, SegmentFits, ReadSegmentFits}
+use Rattle.claims.specs.RoundTrip.{AllBytes, Word32, SegmentFits, ReadSegmentFits}
 use Rattle.wire.specs.declared.Word.the-variants.{Value}
 use Rattle.wire.specs.declared.Segment.{Segment}
 use Rattle.wire.specs.declared.ReadSegment.{ReadSegment}
@@ -43,13 +43,13 @@ unfolding wordAt wordBytes
 word-back x r h = join-bytes x h
 
 -- The bytes behind some bytes are bytes.
-pub bytes-drop : (n : ℕ) (s : List ℕ) → Bytes s → Bytes (drop n s)
-unfolding Bytes
+pub bytes-drop : (n : ℕ) (s : List ℕ) → AllBytes s → AllBytes (drop n s)
+unfolding AllBytes
 bytes-drop n s b k = rw getD-drop (b (n + k))
 
 -- A word of bytes fits.
-pub word-fits : (s : List ℕ) (k : ℕ) → Bytes s → Word32 (wordAt s k)
-unfolding wordAt Bytes
+pub word-fits : (s : List ℕ) (k : ℕ) → AllBytes s → Word32 (wordAt s k)
+unfolding wordAt AllBytes
 word-fits s k b = omega (arith, b k, b (k + 1), b (k + 2), b (k + 3))
 
 -- A word of the bytes behind n bytes.
@@ -58,8 +58,8 @@ unfolding wordAt
 word-drop n s k = simp (getD-drop, add-assoc)
 
 -- The first word of some bytes is what stands there.
-word-first : (s : List ℕ) → Bytes s → 4 ≤ length s → wordBytes (wordAt s 0) ++ drop 4 s ≡ s
-unfolding wordAt Bytes
+word-first : (s : List ℕ) → AllBytes s → 4 ≤ length s → wordBytes (wordAt s 0) ++ drop 4 s ≡ s
+unfolding wordAt AllBytes
 word-first [] b h = absurd (omega arith)
 word-first (p ∷ []) b h = absurd (omega arith)
 word-first (p ∷ q ∷ []) b h = absurd (omega arith)
@@ -67,7 +67,7 @@ word-first (p ∷ q ∷ r ∷ []) b h = absurd (omega arith)
 word-first (p ∷ q ∷ r ∷ s ∷ t) b h = rw (bytes-join p q r s (b 0) (b 1) (b 2) (b 3))
 
 -- The word read from k on is what stands there.
-pub word-front : (s : List ℕ) (k j : ℕ) → Bytes s → k + 4 ≡ j → j ≤ length s → wordBytes (wordAt s k) ++ drop j s ≡ drop k s
+pub word-front : (s : List ℕ) (k j : ℕ) → AllBytes s → k + 4 ≡ j → j ≤ length s → wordBytes (wordAt s k) ++ drop j s ≡ drop k s
 word-front s k j b q h =
     let e : wordAt (drop k s) 0 ≡ wordAt s k = simp (word-drop, add-zero) in
     let f : wordBytes (wordAt (drop k s) 0) ++ drop 4 (drop k s) ≡ drop k s = word-first (drop k s) (bytes-drop k s b) (simp length-drop (omega arith)) in
@@ -82,7 +82,7 @@ low-half : (a b : ℕ) → Word32 b → (a * 4294967296 + b) % 4294967296 ≡ b
 low-half a b h = omega arith
 
 -- The segment read from k on is what stands there.
-pub segment-front : (s : List ℕ) (k j : ℕ) → Bytes s → k + 16 ≡ j → j ≤ length s → segmentBytes (segmentAt s k) ++ drop j s ≡ drop k s
+pub segment-front : (s : List ℕ) (k j : ℕ) → AllBytes s → k + 16 ≡ j → j ≤ length s → segmentBytes (segmentAt s k) ++ drop j s ≡ drop k s
 unfolding segmentBytes segmentAt
 segment-front s k j b q h =
     let low = word-fits s (k + 12) b in
@@ -97,13 +97,13 @@ segment-front s k j b q h =
     )
 
 -- The read segment read from k on is what stands there.
-pub read-segment-front : (s : List ℕ) (k j : ℕ) → Bytes s → k + 20 ≡ j → j ≤ length s → readSegmentBytes (readSegmentAt s k) ++ drop j s ≡ drop k s
+pub read-segment-front : (s : List ℕ) (k j : ℕ) → AllBytes s → k + 20 ≡ j → j ≤ length s → readSegmentBytes (readSegmentAt s k) ++ drop j s ≡ drop k s
 unfolding readSegmentBytes readSegmentAt
 read-segment-front s k j b q h =
     simp (append-assoc, segment-front s (k + 4) j b (omega arith) h, word-front s k (k + 4) b (omega arith) (omega arith))
 
 -- A segment of bytes fits.
-pub segment-fits : (s : List ℕ) (k : ℕ) → Bytes s → SegmentFits (segmentAt s k)
+pub segment-fits : (s : List ℕ) (k : ℕ) → AllBytes s → SegmentFits (segmentAt s k)
 unfolding segmentAt
 segment-fits s k b =
     let high = word-fits s (k + 8) b in
@@ -111,7 +111,7 @@ segment-fits s k b =
     record { handle = word-fits s k b; length = word-fits s (k + 4) b; offset = omega arith }
 
 -- A read segment of bytes fits.
-pub read-segment-fits : (s : List ℕ) (k : ℕ) → Bytes s → ReadSegmentFits (readSegmentAt s k)
+pub read-segment-fits : (s : List ℕ) (k : ℕ) → AllBytes s → ReadSegmentFits (readSegmentAt s k)
 unfolding readSegmentAt
 read-segment-fits s k b = record { position = word-fits s k b; target = segment-fits s (k + 4) b }
 

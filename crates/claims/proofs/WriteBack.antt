@@ -12,10 +12,10 @@ use lib.Seq.{drop-drop, drop-append-seam}
 use lib.Dec.{leb, eqb}
 use Rattle.wire.specs.Wire.{wordAt, wordOf, segmentAt, readSegmentAt, wordBytes, segmentBytes, readSegmentBytes, joined}
 use Rattle.lists.specs.Parsed.{Parsed, refused, done, andThen, require, prepend, each}
-use Rattle.lists.specs.Lists.{markerWord, markerOf, afterMarker, optional, readEntry, readList, positions, segments, afterCount, counted, writeList, replyChunk}
+use Rattle.lists.specs.Lists.{markerWord, markerOf, afterMarker, optional, readEntry, readList, positionsNumber, segments, afterCount, counted, writeList, replyChunk}
 use Rattle.writer.specs.Bytes.{countedBytes, chunkBytes, readListBytes, writeListBytes, replyBytes}
 use Rattle.writer.specs.Write.{total}
-use Rattle.claims.specs.RoundTrip.{Bytes, Word32, All, SegmentFits, ReadSegmentFits}
+use Rattle.claims.specs.RoundTrip.{AllBytes, Word32, All, SegmentFits, ReadSegmentFits}
 use Rattle.wire.specs.declared.Segment.{Segment}
 use Rattle.wire.specs.declared.ReadSegment.{ReadSegment}
 use Rattle.wire.specs.declared.Word.{Word}
@@ -68,13 +68,13 @@ prepend-done x (done xs u) l t e =
     record { tail = xs; first = simp w; whole = v }
 
 -- What stands behind some bytes of s is bytes, where s is.
-pub bytes-behind : (u t s : List ℕ) → u ++ t ≡ s → Bytes s → Bytes t
+pub bytes-behind : (u t s : List ℕ) → u ++ t ≡ s → AllBytes s → AllBytes t
 bytes-behind u t s e b =
     let d : drop (length u) s ≡ t = simp (← e) (drop-append-seam u t) in
-    subst Bytes d (bytes-drop (length u) s b)
+    subst AllBytes d (bytes-drop (length u) s b)
 
 -- A word that was there.
-pub word-of-front : (s : List ℕ) (x : ℕ) → Bytes s → wordOf s ≡ word.Value x → (wordBytes x ++ drop 4 s ≡ s) × Word32 x
+pub word-of-front : (s : List ℕ) (x : ℕ) → AllBytes s → wordOf s ≡ word.Value x → (wordBytes x ++ drop 4 s ≡ s) × Word32 x
 unfolding wordOf
 word-of-front s x b e = go (leb 4 (length s)) refl e
   where
@@ -90,7 +90,7 @@ data OptionalRead {A : Type 0} (absent : A) (present : List ℕ → Parsed A) (s
   entered : wordBytes 1 ++ drop 4 s ≡ s → present (drop 4 s) ≡ done a t → OptionalRead absent present s a t
 
 -- Optional data that was read is one or the other.
-optional-done : {A : Type 0} (absent : A) (present : List ℕ → Parsed A) (s : List ℕ) (a : A) (t : List ℕ) → Bytes s → optional absent present s ≡ done a t →
+optional-done : {A : Type 0} (absent : A) (present : List ℕ → Parsed A) (s : List ℕ) (a : A) (t : List ℕ) → AllBytes s → optional absent present s ≡ done a t →
     OptionalRead absent present s a t
 unfolding markerOf
 optional-done absent present s a t b e = by-word (wordOf s) refl e
@@ -118,7 +118,7 @@ record EntryRead (last : ℕ) (s : List ℕ) (x : ReadSegment) (t : List ℕ) : 
   above : leb last (x .position) ≡ true
 
 -- An entry that was read is what stood there.
-entry-done : (last : ℕ) (s : List ℕ) (x : ReadSegment) (t : List ℕ) → Bytes s → readEntry last s ≡ done x t → EntryRead last s x t
+entry-done : (last : ℕ) (s : List ℕ) (x : ReadSegment) (t : List ℕ) → AllBytes s → readEntry last s ≡ done x t → EntryRead last s x t
 unfolding readEntry readSegmentAt
 entry-done last s x t b e =
     let p = require-done (leb 20 (length s)) 5 _ x t e in
@@ -136,17 +136,17 @@ pub record ReadListRead (room last : ℕ) (s : List ℕ) (l : List ReadSegment) 
   pub bytes : readListBytes l ++ t ≡ s
   pub fits : All ReadSegmentFits l
   pub limit : length l ≤ room
-  pub rising : positions last l 0 ≡ 0
+  pub rising : positionsNumber last l 0 ≡ 0
 
 -- A read list of no entries.
 reads-ended : (room last : ℕ) (s : List ℕ) (l : List ReadSegment) (t : List ℕ) → l ≡ [] → wordBytes 0 ++ t ≡ s → ReadListRead room last s l t
-unfolding readListBytes joined All positions
+unfolding readListBytes joined All positionsNumber
 reads-ended room last s l t n e = simp n (record { bytes = e; fits = tt; limit = omega arith; rising = refl })
 
 -- A read list of one entry more.
 reads-entered : (room last : ℕ) (s u : List ℕ) (x : ReadSegment) (l : List ReadSegment) (t : List ℕ) →
     wordBytes 1 ++ drop 4 s ≡ s → EntryRead last (drop 4 s) x u → ReadListRead room (x .position) u l t → ReadListRead (suc room) last s (x ∷ l) t
-unfolding All positions
+unfolding All positionsNumber
 reads-entered room last s u x l t m entry more =
     record {
       bytes = simp (read-entry-first x l t, more .bytes, entry .bytes) m;
@@ -156,7 +156,7 @@ reads-entered room last s u x l t m entry more =
     }
 
 -- A read list that was read is what stood there, and keeps the rules.
-pub read-list-done : (room last : ℕ) (s : List ℕ) (l : List ReadSegment) (t : List ℕ) → Bytes s → readList room last s ≡ done l t → ReadListRead room last s l t
+pub read-list-done : (room last : ℕ) (s : List ℕ) (l : List ReadSegment) (t : List ℕ) → AllBytes s → readList room last s ≡ done l t → ReadListRead room last s l t
 unfolding readList
 read-list-done zero last s l t b e = go (optional-done [] (λ u. refused 7) s l t b e)
   where
@@ -169,7 +169,7 @@ read-list-done (suc room) last s l t b e = go (optional-done [] next s l t b e) 
     next u = andThen (readEntry last u) (λ x v. prepend x (readList room (x .position) v))
 
     go : OptionalRead [] next s l t →
-        ((last' : ℕ) (s' : List ℕ) (l' : List ReadSegment) (t' : List ℕ) → Bytes s' → readList room last' s' ≡ done l' t' → ReadListRead room last' s' l' t') →
+        ((last' : ℕ) (s' : List ℕ) (l' : List ReadSegment) (t' : List ℕ) → AllBytes s' → readList room last' s' ≡ done l' t' → ReadListRead room last' s' l' t') →
         ReadListRead (suc room) last s l t
     go (ended n m) ih = reads-ended (suc room) last s l t n m
     go (entered m f) ih =
@@ -181,7 +181,7 @@ read-list-done (suc room) last s l t b e = go (optional-done [] next s l t b e) 
         subst (λ (k : List ReadSegment). ReadListRead (suc room) last s k t) (two .whole) (reads-entered room last s (one .rest) x (two .tail) t m entry more)
 
 -- Segments that were read one behind the other are what stood there.
-each-front : (n : ℕ) (s : List ℕ) → Bytes s → n * 16 ≤ length s → joined segmentBytes (each 16 (λ t. segmentAt t 0) n s) ++ drop (n * 16) s ≡ s
+each-front : (n : ℕ) (s : List ℕ) → AllBytes s → n * 16 ≤ length s → joined segmentBytes (each 16 (λ t. segmentAt t 0) n s) ++ drop (n * 16) s ≡ s
 unfolding each joined
 each-front zero s b h = refl
 each-front (suc n) s b h =
@@ -196,7 +196,7 @@ each-length zero s = refl
 each-length (suc n) s = ap suc (each-length n (drop 16 s))
 
 -- Segments of bytes fit.
-each-fits : (n : ℕ) (s : List ℕ) → Bytes s → All SegmentFits (each 16 (λ t. segmentAt t 0) n s)
+each-fits : (n : ℕ) (s : List ℕ) → AllBytes s → All SegmentFits (each 16 (λ t. segmentAt t 0) n s)
 unfolding each All
 each-fits zero s b = tt
 each-fits (suc n) s b = (segment-fits s 0 b, each-fits n (drop 16 s) (bytes-drop 16 s b))
@@ -208,7 +208,7 @@ record CountedRead (left : ℕ) (s : List ℕ) (c : List Segment) (t : List ℕ)
   limit : length c ≤ left
 
 -- A counted run that was read is what stood there, and keeps the limit.
-counted-done : (left : ℕ) (s : List ℕ) (c : List Segment) (t : List ℕ) → Bytes s → counted left s ≡ done c t → CountedRead left s c t
+counted-done : (left : ℕ) (s : List ℕ) (c : List Segment) (t : List ℕ) → AllBytes s → counted left s ≡ done c t → CountedRead left s c t
 unfolding counted segments countedBytes
 counted-done left s c t b e = go (wordOf s) refl e
   where
@@ -251,7 +251,7 @@ writes-entered room left s u c cs t m chunk more =
     }
 
 -- A write list that was read is what stood there, and keeps the limits.
-pub write-list-done : (room left : ℕ) (s : List ℕ) (cs : List (List Segment)) (t : List ℕ) → Bytes s → writeList room left s ≡ done cs t → WriteListRead room left s cs t
+pub write-list-done : (room left : ℕ) (s : List ℕ) (cs : List (List Segment)) (t : List ℕ) → AllBytes s → writeList room left s ≡ done cs t → WriteListRead room left s cs t
 unfolding writeList
 write-list-done zero left s cs t b e = go (optional-done [] (λ u. refused 7) s cs t b e)
   where
@@ -264,7 +264,7 @@ write-list-done (suc room) left s cs t b e = go (optional-done [] next s cs t b 
     next u = andThen (counted left u) (λ c v. prepend c (writeList room (left - length c) v))
 
     go : OptionalRead [] next s cs t →
-        ((left' : ℕ) (s' : List ℕ) (cs' : List (List Segment)) (t' : List ℕ) → Bytes s' → writeList room left' s' ≡ done cs' t' → WriteListRead room left' s' cs' t') →
+        ((left' : ℕ) (s' : List ℕ) (cs' : List (List Segment)) (t' : List ℕ) → AllBytes s' → writeList room left' s' ≡ done cs' t' → WriteListRead room left' s' cs' t') →
         WriteListRead (suc room) left s cs t
     go (ended n m) ih = writes-ended (suc room) left s cs t n m
     go (entered m f) ih =
@@ -281,7 +281,7 @@ pub record ReplyRead (s : List ℕ) (o : Option (List Segment)) (t : List ℕ) :
   pub allowed : ReplyAllowed o
 
 -- A reply chunk that was read is what stood there, and keeps the limit.
-pub reply-done : (s : List ℕ) (o : Option (List Segment)) (t : List ℕ) → Bytes s → replyChunk s ≡ done o t → ReplyRead s o t
+pub reply-done : (s : List ℕ) (o : Option (List Segment)) (t : List ℕ) → AllBytes s → replyChunk s ≡ done o t → ReplyRead s o t
 unfolding replyChunk replyBytes chunkBytes
 reply-done s o t b e = go (optional-done none next s o t b e)
   where

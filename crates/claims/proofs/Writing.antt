@@ -12,7 +12,7 @@ use lib.Seq.{length-take-le}
 use lib.Dec.{leb, eqb}
 use Rattle.wire.specs.Wire.{joined, wordBytes}
 use Rattle.lists.specs.Parsed.{check}
-use Rattle.lists.specs.Lists.{positions}
+use Rattle.lists.specs.Lists.{positionsNumber}
 use Rattle.header.specs.Content.{Content, replyChunkOf, headerOf, runs, replyOf, contentOf}
 use Rattle.writer.specs.Bytes.{countedBytes, chunkBytes, readListBytes, writeListBytes, replyBytes, errorBytes, restBytes, fixedBytes, headerBytes}
 use Rattle.writer.specs.Write.{bareIfError, total, writeNumber, withinLimits}
@@ -35,17 +35,17 @@ pub record Passed (h : Header) (room : ℕ) : Type 0 where
   pub chunks : h .writes .chunks ≤ 4
   pub sum : total (take (h .writes .chunks) (h .writes .counts)) ≤ 16
   pub reply : h .reply .count ≤ cond (h .reply .present) 16 0
-  pub rising : positions 0 (contentOf h .reads) 0 ≡ 0
+  pub rising : positionsNumber 0 (contentOf h .reads) 0 ≡ 0
   pub short : length (headerBytes (contentOf h)) ≤ 1024
   pub fits : length (headerBytes (contentOf h)) ≤ room
 
 -- The checks behind the positions gave 0 too.
-positions-passed : (last : ℕ) (l : List ReadSegment) (next : ℕ) → positions last l next ≡ 0 → next ≡ 0
-unfolding positions
+positions-passed : (last : ℕ) (l : List ReadSegment) (next : ℕ) → positionsNumber last l next ≡ 0 → next ≡ 0
+unfolding positionsNumber
 positions-passed last [] next e = e
 positions-passed last (x ∷ l) next e =
-    let a : (eqb (x .position % 4) 0 ≡ true) × (check (leb last (x .position)) 8 (positions (x .position) l next) ≡ 0) = check-passed _ 8 _ e in
-    let b : (leb last (x .position) ≡ true) × (positions (x .position) l next ≡ 0) = check-passed _ 7 _ (a .1) in
+    let a : (eqb (x .position % 4) 0 ≡ true) × (check (leb last (x .position)) 8 (positionsNumber (x .position) l next) ≡ 0) = check-passed _ 8 _ e in
+    let b : (leb last (x .position) ≡ true) × (positionsNumber (x .position) l next ≡ 0) = check-passed _ 7 _ (a .1) in
     positions-passed (x .position) l next (b .1)
 
 -- Both of two tests that hold together.
@@ -71,7 +71,7 @@ write-passed h room e =
       chunks = leb-true _ _ (c .0);
       sum = leb-true _ _ (d .0);
       reply = leb-true _ _ (d .1);
-      rising = subst (λ (n : ℕ). positions 0 (contentOf h .reads) n ≡ 0) next (k .1);
+      rising = subst (λ (n : ℕ). positionsNumber 0 (contentOf h .reads) n ≡ 0) next (k .1);
       short = leb-true _ _ (g .0);
       fits = leb-true _ _ (i .0);
     }
@@ -205,7 +205,7 @@ allowed-passed c room a h =
       chunks = a .chunks-limit;
       sum = simp (counts-held (c .writes)) (a .writes-limit);
       reply = reply-limit (c .reply) (a .reply);
-      rising = subst (λ (d : Content). positions 0 (d .reads) 0 ≡ 0) (sym same) (a .rising);
+      rising = subst (λ (d : Content). positionsNumber 0 (d .reads) 0 ≡ 0) (sym same) (a .rising);
       short = subst (λ (d : Content). length (headerBytes d) ≤ 1024) (sym same) most;
       fits = subst (λ (d : Content). length (headerBytes d) ≤ room) (sym same) h;
     }

@@ -12,13 +12,13 @@ use Rattle.header.specs.declared.Kind.the-variants.{Msg, Nomsg, Error}
 use Rattle.header.specs.declared.ErrorKind.{ErrorKind}
 use Rattle.header.specs.declared.ErrorKind.the-variants.{Version, Chunk}
 use Rattle.header.specs.declared.Header.{Header}
-use Rattle.lists.specs.Steps.{zeroSegment}
+use Rattle.wire.specs.Wire.{zeroSegment, zeroReadSegment}
 use Rattle.header.specs.Content.{padded}
 use Rattle.writer.specs.Write.{total}
 
 -- Every element of s is a byte.
-unfoldable pub Bytes : List ℕ → Type 0
-Bytes s = (k : ℕ) → getD s k 0 < 256
+unfoldable pub AllBytes : List ℕ → Type 0
+AllBytes s = (k : ℕ) → getD s k 0 < 256
 
 -- "32-bit words"
 abbrev pub Word32 : ℕ → Type 0
@@ -77,7 +77,7 @@ zeroedReply true count segments = record { segments = padded 16 zeroSegment (tak
 unfoldable pub zeroed : Header → Header
 zeroed h = record {
   reads = record {
-    segments = padded 16 (record { position = 0; target = zeroSegment }) (take (h .reads .count) (h .reads .segments));
+    segments = padded 16 (zeroReadSegment) (take (h .reads .count) (h .reads .segments));
     count = h .reads .count;
   };
   writes = record {

@@ -18,7 +18,8 @@ use Rattle.wire.specs.declared.Segment.{Segment}
 use Rattle.wire.specs.declared.ReadSegment.{ReadSegment}
 use Rattle.lists.specs.Parsed.{Parsed, refused, done, andThen, require, each}
 use Rattle.lists.specs.Lists.{markerOf, readList, writeList, counted, replyChunk}
-use Rattle.lists.specs.Steps.{markedSegmentAt, chunksAt, ChunksFit, withChunks, zeroSegment, zeroReads}
+use Rattle.lists.specs.Steps.{markedSegmentAt, chunksAt, ChunksFit, withChunks, zeroReads}
+use Rattle.wire.specs.Wire.{zeroSegment, zeroReadSegment}
 use Rattle.lists.specs.declared.WriteList.{WriteList}
 use Rattle.lists.proofs.Laws.{never, required, both, word-room, Chunk, chunk-of, end-room, ChunkFront, chunk-front}
 use Rattle.lists.proofs.Laws as laws
@@ -349,7 +350,7 @@ built s shape f = rw (f .read, f .shape-is)
 
     reads : record { segments = stored zeroReads 0 (each 24 markedSegmentAt (length (c .reads)) (drop 16 s)); count = length (c .reads) } ≡ readListOf (c .reads)
     reads =
-        let p = ap (stored zeroReads 0) (sym (l .reads-are)) ∙ stored-padded 16 (record { position = 0; target = zeroSegment }) (c .reads) (l .reads-few) in
+        let p = ap (stored zeroReads 0) (sym (l .reads-are)) ∙ stored-padded 16 (zeroReadSegment) (c .reads) (l .reads-few) in
         λ i. record { segments = p i; count = length (c .reads) }
 
     writes : withChunks 0 0 (record { segments = replicate 16 zeroSegment; counts = replicate 4 0; chunks = length (c .writes) }) (chunksAt (length (c .writes)) (drop (20 + length (c .reads) * 24) s)) ≡ writeListOf (c .writes)
@@ -395,3 +396,11 @@ chunks-fit s shape f = rw (f .shape-is) (f .lies .writes-fit)
 -- An accepted reading answers 0 and the header.
 pub answer-is : (s : List ℕ) (shape : Shape) → Found s shape → (h : Header) → h ≡ readAnswer (readFrame s) .header → record { header = h; number = 0 } ≡ readAnswer (readFrame s)
 answer-is s shape f h e = rw (e, f .read)
+
+-- The payload is no longer than the frame.
+pub payload-short : (s : List ℕ) → length (payloadOf (readFrame s)) ≤ length s
+payload-short s = go (readFrame s) refl
+  where
+    go : (p : Parsed Content) → readFrame s ≡ p → length (payloadOf p) ≤ length s
+    go (refused n) e = omega arith
+    go (done c t) e = frame-lies s c t e .reply .short

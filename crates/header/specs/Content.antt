@@ -7,7 +7,8 @@ use lib.ListN.{length, take, drop, replicate}
 use Rattle.wire.specs.Wire.{joined}
 use Rattle.wire.specs.declared.Segment.{Segment}
 use Rattle.wire.specs.declared.ReadSegment.{ReadSegment}
-use Rattle.lists.specs.Steps.{zeroSegment}
+use Rattle.wire.specs.Wire.{zeroSegment, zeroReadSegment}
+use Rattle.lists.specs.Lists.{mostReads, mostChunks, mostWrites, mostReplies}
 use Rattle.lists.specs.declared.ReadList.{ReadList}
 use Rattle.lists.specs.declared.WriteList.{WriteList}
 use Rattle.lists.specs.declared.ReplyChunk.{ReplyChunk}
@@ -26,18 +27,18 @@ pub record Content : Type 0 where
 
 -- "Unused places of a header that was read are zero": n places, of which the first hold l.
 abbrev pub padded : {A : Type 0} → ℕ → A → List A → List A
-padded n zeroed l = l ++ replicate (n - length l) zeroed
+padded n empty l = l ++ replicate (n - length l) empty
 
 abbrev pub readListOf : List ReadSegment → ReadList
-readListOf l = record { segments = padded 16 (record { position = 0; target = zeroSegment }) l; count = length l }
+readListOf l = record { segments = padded 16 (zeroReadSegment) l; count = length l }
 
 abbrev pub writeListOf : List (List Segment) → WriteList
 writeListOf cs =
-    record { segments = padded 16 zeroSegment (joined (λ c. c) cs); counts = padded 4 0 (map length cs); chunks = length cs }
+    record { segments = padded mostWrites zeroSegment (joined (λ c. c) cs); counts = padded mostChunks 0 (map length cs); chunks = length cs }
 
 abbrev pub replyChunkOf : Option (List Segment) → ReplyChunk
-replyChunkOf none = record { segments = replicate 16 zeroSegment; count = 0; present = false }
-replyChunkOf (some l) = record { segments = padded 16 zeroSegment l; count = length l; present = true }
+replyChunkOf none = record { segments = replicate mostReplies zeroSegment; count = 0; present = false }
+replyChunkOf (some l) = record { segments = padded mostReplies zeroSegment l; count = length l; present = true }
 
 -- The struct that holds a content, its unused places zero.
 unfoldable pub headerOf : Content → Header
@@ -57,7 +58,7 @@ abbrev pub replyOf : Bool → List Segment → Option (List Segment)
 replyOf false l = none
 replyOf true l = some l
 
--- The content that a struct holds: "the writer ignores" its unused places.
+-- The content that a struct within its limits holds: "the writer ignores" its unused places.
 unfoldable pub contentOf : Header → Content
 contentOf h = record {
   kind = h .kind;

@@ -9,7 +9,7 @@ use Rattle.wire.specs.Wire.{wordAt, wordOf}
 use Rattle.wire.specs.declared.Word.{Word}
 use Rattle.wire.specs.declared.Word.the-variants as word
 use Rattle.lists.specs.Parsed.{Parsed, refused, done, andThen, require}
-use Rattle.lists.specs.Lists.{readList, writeList, replyChunk}
+use Rattle.lists.specs.Lists.{mostReads, mostChunks, mostWrites, readList, writeList, replyChunk}
 use Rattle.header.specs.Content.{Content, headerOf, nothing}
 use Rattle.header.specs.declared.Kind.{Kind}
 use Rattle.header.specs.declared.Kind.the-variants.{Msg, Nomsg, Error}
@@ -20,7 +20,7 @@ use Rattle.header.specs.declared.ReadAnswer.{ReadAnswer}
 -- "MSG and NOMSG go on with three parts."
 unfoldable pub threeParts : Kind → ℕ → ℕ → List ℕ → Parsed Content
 threeParts kind xid credit s =
-    andThen (readList 16 0 s) (λ reads t. andThen (writeList 4 16 t) (λ writes u. andThen (replyChunk u) (λ reply v.
+    andThen (readList mostReads 0 s) (λ reads t. andThen (writeList mostChunks mostWrites t) (λ writes u. andThen (replyChunk u) (λ reply v.
     done (record { kind = kind; xid = xid; credit = credit; reads = reads; writes = writes; reply = reply }) v)))
 
 -- An ERROR header has no lists.

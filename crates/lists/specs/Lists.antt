@@ -14,6 +14,19 @@ use Rattle.lists.specs.Parsed.{Parsed, refused, done, andThen, require, 
 use Rattle.lists.specs.declared.Marker.{Marker}
 use Rattle.lists.specs.declared.Marker.the-variants as marker
 
+-- "Limits: 16 read segments; 4 write chunks holding 16 segments together; 16 segments in the reply chunk"
+abbrev pub mostReads : ℕ
+mostReads = 16
+
+abbrev pub mostChunks : ℕ
+mostChunks = 4
+
+abbrev pub mostWrites : ℕ
+mostWrites = 16
+
+abbrev pub mostReplies : ℕ
+mostReplies = 16
+
 -- "a marker word 1, an entry ..; a marker word 0 ends it", and "a marker word above 1": 6.
 abbrev pub markerWord : Word → Marker
 markerWord (word.Refused n) = marker.Refused n
@@ -31,7 +44,7 @@ afterMarker marker.Entry t absent present = present t
 abbrev pub optional : {A : Type 0} → A → (List ℕ → Parsed A) → List ℕ → Parsed A
 optional absent present s = afterMarker (markerOf s) (drop 4 s) absent present
 
--- "An entry is position, handle, length, offset: 20 bytes." "its 20 bytes (5), then 9, then 8", behind an entry at the position `last`.
+-- "An entry is position, handle, length, offset: 20 bytes." "its 20 bytes (5), then 9, then 8", behind an entry at the position `last` (0 where there is none).
 unfoldable pub readEntry : ℕ → List ℕ → Parsed ReadSegment
 readEntry last s =
     require (leb 20 (length s)) 5
@@ -46,10 +59,10 @@ readList (suc room) last s =
     optional [] (λ t. andThen (readEntry last t) (λ x u. prepend x (readList room (x .position) u))) s
 
 -- The same rule of entries that are at hand: "entry by entry 9 and 8", and then what `next` says.
-unfoldable pub positions : ℕ → List ReadSegment → ℕ → ℕ
-positions last [] next = next
-positions last (x ∷ xs) next =
-    check (eqb (x .position % 4) 0) 9 (check (leb last (x .position)) 8 (positions (x .position) xs next))
+unfoldable pub positionsNumber : ℕ → List ReadSegment → ℕ → ℕ
+positionsNumber last [] next = next
+positionsNumber last (x ∷ xs) next =
+    check (eqb (x .position % 4) 0) 9 (check (leb last (x .position)) 8 (positionsNumber (x .position) xs next))
 
 -- "that many segments of handle, length, offset: 16 bytes each", 5 where they are not there.
 unfoldable pub segments : ℕ → List ℕ → Parsed (List Segment)
@@ -71,4 +84,4 @@ writeList (suc room) left s =
 
 -- "The reply chunk: marker, count word, limit, segments."
 unfoldable pub replyChunk : List ℕ → Parsed (Option (List Segment))
-replyChunk s = optional none (λ t. andThen (counted 16 t) (λ c u. done (some c) u)) s
+replyChunk s = optional none (λ t. andThen (counted mostReplies t) (λ c u. done (some c) u)) s

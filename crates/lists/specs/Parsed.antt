@@ -18,6 +18,7 @@ andThen (done a t) next = next a t
 abbrev pub require : {A : Type 0} → Bool → ℕ → Parsed A → Parsed A
 require holds n next = cond holds next (refused n)
 
+-- The same where only the number is asked for.
 abbrev pub check : Bool → ℕ → ℕ → ℕ
 check holds n next = cond holds next n
 

@@ -5,7 +5,7 @@ use mathlib.Core.List.{List, [], _∷_, _++_, map}
 use mathlib.Core.Option.{Option, none, some}
 use lib.ListN.{length, drop, replicate}
 use lib.Dec.{eqb}
-use Rattle.wire.specs.Wire.{wordAt, segmentAt, readSegmentAt, stored, joined}
+use Rattle.wire.specs.Wire.{wordAt, segmentAt, readSegmentAt, stored, joined, zeroReadSegment}
 use Rattle.wire.specs.declared.Segment.{Segment}
 use Rattle.wire.specs.declared.ReadSegment.{ReadSegment}
 use Rattle.lists.specs.Parsed.{Parsed, refused, done, each}
@@ -73,9 +73,6 @@ withChunks before segments w cs =
 abbrev pub markedSegmentAt : List ℕ → ReadSegment
 markedSegmentAt s = readSegmentAt s 4
 
--- "Unused places of a header that was read are zero": an empty place, and the places before anything is stored.
-abbrev pub zeroSegment : Segment
-zeroSegment = record { handle = 0; length = 0; offset = 0 }
-
+-- The places of a read list before anything is stored.
 abbrev pub zeroReads : List ReadSegment
-zeroReads = replicate 16 (record { position = 0; target = zeroSegment })
+zeroReads = replicate 16 zeroReadSegment

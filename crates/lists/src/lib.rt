@@ -8,7 +8,7 @@ ghost use Prim.Native.Nat.{ℕ, _+_, _*_, _-_, _≤_};
 ghost use lib.ListN.{length, take, drop};
 ghost use Rattle.wire.specs.Wire.{segmentAt, stored};
 ghost use Rattle.lists.specs.Parsed.{each};
-ghost use Rattle.lists.specs.Lists.{markerOf, readEntry, readList, positions, counted, writeList};
+ghost use Rattle.lists.specs.Lists.{markerOf, readEntry, readList, positionsNumber, counted, writeList};
 ghost use Rattle.lists.specs.Steps.{entryStep, readStep, countStep, chunkStep, listWalk, markedSegmentAt, zeroReads, chunksAt, ChunksFit, withChunks};
 
 // "Limits: 16 read segments; 4 write chunks holding 16 segments together; 16 segments in the reply chunk"
@@ -249,7 +249,7 @@ pub fn fill_writes(s: &[u8], n: usize, i: usize, used: usize, list: WriteList) -
 // The number of the first read entry at fault, or 0.
 pub fn positions_number(segments: [ReadSegment; 16], n: usize) -> u32
     requires { ⌜ n ≤ 16 ⌝ }
-    ensures { λ r. ⌜ r ≡ positions 0 (take n segments) 0 ⌝ }
+    ensures { λ r. ⌜ r ≡ positionsNumber 0 (take n segments) 0 ⌝ }
 {
     let mut last: u32 = 0;
     for k in 0..n {

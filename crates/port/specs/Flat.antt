@@ -48,11 +48,11 @@ flatOf h = record {
   reads = h .reads .segments;
   writes = h .writes .segments;
   reply = h .reply .segments;
-  write_counts = h .writes .counts;
-  read_count = h .reads .count;
-  write_chunks = h .writes .chunks;
-  reply_present = presentNumber (h .reply .present);
-  reply_count = h .reply .count;
+  «write_counts» = h .writes .counts;
+  «read_count» = h .reads .count;
+  «write_chunks» = h .writes .chunks;
+  «reply_present» = presentNumber (h .reply .present);
+  «reply_count» = h .reply .count;
   kind = kindNumber (h .kind);
   low = lowOf (h .kind);
   high = highOf (h .kind);
@@ -63,11 +63,13 @@ flatOf h = record {
 unfoldable pub flatAnswer : ReadAnswer → FlatAnswer
 flatAnswer a = record { header = flatOf (a .header); number = a .number }
 
--- Where a part that ends with the frame lies in it.
+-- Where a part that ends with the frame lies in it; an empty part is at 0.
 unfoldable pub partOf : List ℕ → List ℕ → FlatPart
-partOf frame part = record { offset = length frame - length part; length = length part }
+partOf frame part =
+    cond (eqb (length part) 0) (record { offset = 0; length = 0 })
+    (record { offset = length frame - length part; length = length part })
 
--- The kind that a number names, where there is one.
+-- The kind that a number names, where there is one. The two numbers beside it count for a version error alone.
 unfoldable pub kindOf : ℕ → ℕ → ℕ → Known
 kindOf kind low high =
     cond (eqb kind 0) (Is Msg)
@@ -79,9 +81,9 @@ kindOf kind low high =
 -- The header that a flat struct holds, with its kind and presence.
 unfoldable pub headerAt : FlatHeader → Kind → Bool → Header
 headerAt f kind present = record {
-  reads = record { segments = f .reads; count = f .read_count };
-  writes = record { segments = f .writes; counts = f .write_counts; chunks = f .write_chunks };
-  reply = record { segments = f .reply; count = f .reply_count; present = present };
+  reads = record { segments = f .reads; count = f .«read_count» };
+  writes = record { segments = f .writes; counts = f .«write_counts»; chunks = f .«write_chunks» };
+  reply = record { segments = f .reply; count = f .«reply_count»; present = present };
   kind = kind;
   xid = f .xid;
   credit = f .credit;
@@ -92,13 +94,13 @@ abbrev pub portAnswer : FlatHeader → Known → Bool → ℕ → FlatWritten
 portAnswer f No fits room = record { number = 20; length = 0 }
 portAnswer f (Is kind) false room = record { number = 20; length = 0 }
 portAnswer f (Is kind) true room =
-    record { number = writeAnswer (headerAt f kind (eqb (f .reply_present) 1)) room .number; length = writeAnswer (headerAt f kind (eqb (f .reply_present) 1)) room .length }
+    record { number = writeAnswer (headerAt f kind (eqb (f .«reply_present») 1)) room .number; length = writeAnswer (headerAt f kind (eqb (f .«reply_present») 1)) room .length }
 
 abbrev pub portInto : FlatHeader → Known → Bool → List ℕ → List ℕ
 portInto f No fits out = out
 portInto f (Is kind) false out = out
-portInto f (Is kind) true out = writtenInto (headerAt f kind (eqb (f .reply_present) 1)) out
+portInto f (Is kind) true out = writtenInto (headerAt f kind (eqb (f .«reply_present») 1)) out
 
 pub record PortWrites (f : FlatHeader) (before : List ℕ) (r : FlatWritten) (after : List ℕ) : Type 0 where
-  pub answer : r ≡ portAnswer f (kindOf (f .kind) (f .low) (f .high)) (leb (f .reply_present) 1) (length before)
-  pub buffer : after ≡ portInto f (kindOf (f .kind) (f .low) (f .high)) (leb (f .reply_present) 1) before
+  pub answer : r ≡ portAnswer f (kindOf (f .kind) (f .low) (f .high)) (leb (f .«reply_present») 1) (length before)
+  pub buffer : after ≡ portInto f (kindOf (f .kind) (f .low) (f .high)) (leb (f .«reply_present») 1) before

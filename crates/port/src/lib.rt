@@ -14,7 +14,7 @@ ghost use lib.ListN.{length};
 ghost use Rattle.header.specs.Frame.{readFrame, readAnswer, payloadOf};
 ghost use Rattle.port.specs.Flat.{kindNumber, lowOf, highOf, presentNumber, flatOf, flatAnswer, partOf, kindOf, headerAt, PortWrites};
 
-// "bad argument": a kind or a presence that does not exist, the one thing that a flat header can say and a header cannot
+// "bad argument": a kind or a presence that does not exist, which a flat header can name and a header cannot
 pub const BAD_ARGUMENT: u32 = 20;
 
 #[repr(C)]
@@ -155,6 +155,12 @@ pub extern "C" fn eos_payload(frame: &[u8]) -> FlatPart
 {
     let part = header::payload(frame);
     let n = part.len();
+    if n == 0 {
+        return FlatPart {
+            offset: 0,
+            length: 0,
+        };
+    }
     FlatPart {
         offset: frame.len() - n,
         length: n,

@@ -36,6 +36,13 @@ segmentAt s k =
 unfoldable pub readSegmentAt : List ℕ → ℕ → ReadSegment
 readSegmentAt s k = record { position = wordAt s k; target = segmentAt s (k + 4) }
 
+-- An unused place.
+abbrev pub zeroSegment : Segment
+zeroSegment = record { handle = 0; length = 0; offset = 0 }
+
+abbrev pub zeroReadSegment : ReadSegment
+zeroReadSegment = record { position = 0; target = zeroSegment }
+
 -- A buffer or an array l with the elements v from place k on. (`sets` stores them one by one; no place behind l is written.)
 unfoldable pub stored : {A : Type 0} → List A → ℕ → List A → List A
 stored l k v = sets l k v

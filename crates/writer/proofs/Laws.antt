@@ -3,6 +3,7 @@
 use mathlib.Core.Path.{_≡_, refl, sym, ap, _∙_}
 use mathlib.Core.Bool.{Bool, true, false, cond, _&&_}
 use mathlib.Core.List.{List, [], _∷_, _++_, append-assoc, append-nil}
+use mathlib.Core.Logic.{⊎-elim}
 use Prim.Native.Nat.{ℕ, zero, suc, _+_, _*_, _%_, _≤_, _<_}
 use native.Mathlib.Nat.{zero-mul, suc-mul, zero-add}
 use native.Mathlib.Numerals.{add-one}
@@ -10,15 +11,25 @@ use native.Mathlib.Omega.{arith}
 use lib.ListN.{length, take, drop, getD, length-append, length-drop, length-map}
 use lib.Seq.{take-suc, drop-drop, length-take-le, sets-eq}
 use lib.Dec.{eqb, leb}
+use mir.Val.{Val}
+use denote.Shadow.{shadow}
+use denote.Enum.Declared.{tagOf}
+use types.Run.{OneOf}
 use borrow.Author.Tests.{leb-true, lt-leb, eq-eqb, ne-eqb}
+use borrow.Author.Needs.{needs}
 use Rattle.wire.specs.Wire.{stored, joined, wordBytes, segmentBytes, readSegmentBytes}
 use Rattle.wire.specs.declared.Segment.{Segment}
 use Rattle.wire.specs.declared.ReadSegment.{ReadSegment}
+use Rattle.wire.proofs.Segment as segment
+use Rattle.wire.proofs.ReadSegment as read-segment
 use Rattle.lists.specs.Parsed.{check}
-use Rattle.lists.specs.Lists.{positions}
+use Rattle.lists.specs.Lists.{positionsNumber}
 use Rattle.lists.specs.declared.ReadList.{ReadList}
 use Rattle.lists.specs.declared.WriteList.{WriteList}
 use Rattle.lists.specs.declared.ReplyChunk.{ReplyChunk}
+use Rattle.lists.proofs.ReadList as read-list
+use Rattle.lists.proofs.WriteList as write-list
+use Rattle.lists.proofs.ReplyChunk as reply-chunk
 use Rattle.header.specs.Content.{contentOf, runs, replyOf}
 use Rattle.header.specs.declared.Header.{Header}
 use Rattle.header.specs.declared.Kind.{Kind}
@@ -26,18 +37,7 @@ use Rattle.header.specs.declared.Kind.the-variants.{Msg, Nomsg, Error}
 use Rattle.header.specs.declared.ErrorKind.{ErrorKind}
 use Rattle.header.specs.declared.ErrorKind.the-variants.{Version, Chunk}
 use Rattle.header.proofs.Kind.{the-type}
-use Rattle.wire.proofs.Segment as segment
-use Rattle.wire.proofs.ReadSegment as read-segment
-use Rattle.lists.proofs.ReadList as read-list
-use Rattle.lists.proofs.WriteList as write-list
-use Rattle.lists.proofs.ReplyChunk as reply-chunk
-use mir.Val.{Val}
-use denote.Shadow.{shadow}
-use borrow.Author.Needs.{needs}
-use denote.Enum.Declared.{tagOf}
-use types.Run.{OneOf}
-use mathlib.Core.Logic.{⊎-elim}
-use Rattle.writer.specs.Bytes.{entryBytes, countedBytes, chunkBytes, readListBytes, writeListBytes, replyBytes, restBytes, errorBytes, fixedBytes, headerBytes}
+use Rattle.writer.specs.Bytes.{entryBytes, countedBytes, chunkBytes, readListBytes, writeListBytes, replyBytes, restBytes, errorBytes, fixedBytes, headerBytes, partsOf}
 use Rattle.writer.specs.Write.{bareIfError, total, withinLimits, writeNumber}
 
 -- The total of counts and one more.
@@ -148,18 +148,18 @@ check-next true true p q next h = h
 check-next true false p q next h = refl
 check-next false b p q next h = refl
 
--- The number of the positions, or where that is 0 what comes then.
-positions-next : (last : ℕ) (l : List ReadSegment) (next : ℕ) → positions last l next ≡ cond (eqb (positions last l 0) 0) next (positions last l 0)
-unfolding positions
+-- The number of the positionsNumber, or where that is 0 what comes then.
+positions-next : (last : ℕ) (l : List ReadSegment) (next : ℕ) → positionsNumber last l next ≡ cond (eqb (positionsNumber last l 0) 0) next (positionsNumber last l 0)
+unfolding positionsNumber
 positions-next last [] next = refl
 positions-next last (x ∷ xs) next = check-next (eqb (x .position % 4) 0) (leb last (x .position)) _ _ next (positions-next (x .position) xs next)
 
 -- Where the positions are at fault, nothing else is asked.
-pub positions-fault : (last : ℕ) (l : List ReadSegment) → (positions last l 0 ≡ 0 → ⊥) → (next : ℕ) → positions last l next ≡ positions last l 0
+pub positions-fault : (last : ℕ) (l : List ReadSegment) → (positionsNumber last l 0 ≡ 0 → ⊥) → (next : ℕ) → positionsNumber last l next ≡ positionsNumber last l 0
 positions-fault last l h next = rw (positions-next last l next, ne-eqb _ _ h)
 
 -- Where they are not, the rest decides.
-pub positions-fine : (last : ℕ) (l : List ReadSegment) → positions last l 0 ≡ 0 → (next : ℕ) → positions last l next ≡ next
+pub positions-fine : (last : ℕ) (l : List ReadSegment) → positionsNumber last l 0 ≡ 0 → (next : ℕ) → positionsNumber last l next ≡ next
 positions-fine last l h next = rw (positions-next last l next, eq-eqb _ _ h)
 
 -- Within 0 is 0.
@@ -187,11 +187,7 @@ writes-full x vs h = (omega (arith, length-map (x .segments) (segment.the-type .
 reply-full : (x : ReplyChunk) (vs : List Val) → shadow (reply-chunk.the-field .row .own (reply-chunk.the-type .to x) vs) → length (x .segments) ≡ 16
 reply-full x vs h = omega (arith, length-map (x .segments) (segment.the-type .to))
 
--- The three parts of a header, and how many bytes they take within their limits.
-abbrev pub partsOf : ReadList → WriteList → ReplyChunk → List ℕ
-partsOf reads writes reply =
-    readListBytes (take (reads .count) (reads .segments)) ++ (writeListBytes (runs (take (writes .chunks) (writes .counts)) (writes .segments)) ++ replyBytes (replyOf (reply .present) (take (reply .count) (reply .segments))))
-
+-- How many bytes the three parts of a header take within their limits.
 abbrev pub partsSize : ReadList → WriteList → ReplyChunk → ℕ
 partsSize reads writes reply =
     (reads .count * 24 + 4) + ((writes .chunks * 8 + total (take (writes .chunks) (writes .counts)) * 16 + 4) + cond (reply .present) (8 + reply .count * 16) 4)
@@ -268,8 +264,8 @@ check-zero true n next p h = (refl, h)
 check-zero false n next p h = absurd (omega arith)
 
 -- Positions that give 0 were in order.
-positions-zero : (last : ℕ) (l : List ReadSegment) (next : ℕ) → positions last l next ≡ 0 → next ≡ 0
-unfolding positions
+positions-zero : (last : ℕ) (l : List ReadSegment) (next : ℕ) → positionsNumber last l next ≡ 0 → next ≡ 0
+unfolding positionsNumber
 positions-zero last [] next h = h
 positions-zero last (x ∷ xs) next h =
     positions-zero (x .position) xs next (check-zero (leb last (x .position)) 8 _ (omega arith) (check-zero (eqb (x .position % 4) 0) 9 _ (omega arith) h .1) .1)

@@ -6,7 +6,7 @@ use mathlib.Core.List.{List, [], _∷_, _++_}
 use lib.ListN.{length, take, drop}
 use lib.Dec.{leb, eqb}
 use Rattle.lists.specs.Parsed.{check}
-use Rattle.lists.specs.Lists.{positions}
+use Rattle.lists.specs.Lists.{mostReads, mostChunks, mostWrites, mostReplies, positionsNumber}
 use Rattle.header.specs.Content.{contentOf}
 use Rattle.header.specs.declared.Kind.{Kind}
 use Rattle.header.specs.declared.Kind.the-variants.{Msg, Nomsg, Error}
@@ -28,14 +28,14 @@ total (n ∷ ns) = n + total ns
 -- "7 (also segments in an absent reply chunk)": the limits of a header that is to be written.
 unfoldable pub withinLimits : ℕ → ℕ → List ℕ → Bool → ℕ → Bool
 withinLimits reads chunks counts present replies =
-    leb reads 16 && (leb chunks 4 && (leb (total (take chunks counts)) 16 && leb replies (cond present 16 0)))
+    leb reads mostReads && (leb chunks mostChunks && (leb (total (take chunks counts)) mostWrites && leb replies (cond present mostReplies 0)))
 
--- "Writing a header checks 12 .., 7 .., then entry by entry 9 and 8, then 21, 16.", into `room` bytes.
+-- "Writing a header checks 12 .., 7 .., then entry by entry 9 and 8, then 21, 16.", into `room` bytes. (No header within the limits is as long as 21 asks.)
 unfoldable pub writeNumber : Header → ℕ → ℕ
 writeNumber h room =
     check (bareIfError (h .kind) (h .reads .count) (h .writes .chunks) (h .reply .present)) 12
     (check (withinLimits (h .reads .count) (h .writes .chunks) (h .writes .counts) (h .reply .present) (h .reply .count)) 7
-    (positions 0 (contentOf h .reads)
+    (positionsNumber 0 (contentOf h .reads)
     (check (leb (length (headerBytes (contentOf h))) 1024) 21
     (check (leb (length (headerBytes (contentOf h))) room) 16
     0))))

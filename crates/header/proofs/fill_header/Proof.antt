@@ -1,4 +1,5 @@
-use Rattle.lists.specs.Steps.{markedSegmentAt, zeroReads, zeroSegment, withChunks, chunksAt}
+use Rattle.lists.specs.Steps.{markedSegmentAt, zeroReads, withChunks, chunksAt}
+use Rattle.wire.specs.Wire.{zeroSegment}
 use Rattle.lists.specs.Parsed.{each}
 use Rattle.wire.specs.Wire.{stored}
 use lib.ListN.{replicate}

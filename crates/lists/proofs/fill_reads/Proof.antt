@@ -4,7 +4,8 @@ use Prim.Native.Nat.{_+_, _*_, _<_}
 use denote.Ref.{now}
 use Rattle.wire.proofs.Laws.{read-segment-drop}
 use Rattle.wire.specs.Wire.{readSegmentAt}
-use Rattle.lists.specs.Steps.{zeroSegment, zeroReads}
+use Rattle.lists.specs.Steps.{zeroReads}
+use Rattle.wire.specs.Wire.{zeroSegment, zeroReadSegment}
 use native.Mathlib.Omega.{arith}
 use borrow.Author.Needs.{needs}
 use mathlib.Core.Path.{_≡_, sym, _∙_}
@@ -63,7 +64,7 @@ loop-again : tie.Need-loop-again Inv-loop μ-loop
 loop-again c =
     let k = c .before .before .loop .k in
     let below : k < length (each 24 markedSegmentAt (c .before .before .before .before .args .n) (now (c .before .before .before .before .args .s))) = rw length-each (search needs) in
-    let item : readSegmentAt (now (c .before .before .before .before .args .s)) (k * 24 + 4) ≡ getD (each 24 markedSegmentAt (c .before .before .before .before .args .n) (now (c .before .before .before .before .args .s))) k (record { position = 0; target = zeroSegment }) =
+    let item : readSegmentAt (now (c .before .before .before .before .args .s)) (k * 24 + 4) ≡ getD (each 24 markedSegmentAt (c .before .before .before .before .args .n) (now (c .before .before .before .before .args .s))) k (zeroReadSegment) =
     sym (item-at 24 markedSegmentAt (c .before .before .before .before .args .n) (now (c .before .before .before .before .args .s)) k _ (c .before .loop-test .taken) ∙ read-segment-drop (k * 24) 4 _) in
     let stored-there = fill-next zeroReads (each 24 markedSegmentAt (c .before .before .before .before .args .n) (now (c .before .before .before .before .args .s))) (c .before .before .loop .to) 0 k (c .before .before .loop .inv .1) (c .read-segment-at .result) _ below (c .read-segment-at .ensures ∙ item) in
     (search needs, rw zero-add at stored-there)

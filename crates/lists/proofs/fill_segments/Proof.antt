@@ -4,7 +4,7 @@ use lib.ListN.{getD}
 use Prim.Native.Nat.{_+_, _*_, _<_}
 use denote.Ref.{now}
 use Rattle.wire.proofs.Laws.{segment-drop}
-use Rattle.lists.specs.Steps.{zeroSegment}
+use Rattle.wire.specs.Wire.{zeroSegment}
 use native.Mathlib.Omega.{arith}
 use borrow.Author.Needs.{needs}
 use mathlib.Core.Path.{_≡_, sym, _∙_}

@@ -1,5 +1,5 @@
 use Rattle.wire.specs.declared.ReadSegment.{ReadSegment}
-use Rattle.lists.specs.Steps.{zeroSegment}
+use Rattle.wire.specs.Wire.{zeroSegment, zeroReadSegment}
 use lib.ListN.{length-take, drop-of-length-le}
 use borrow.Author.Tests.{le-leb, lt-leb, eq-eqb, ne-eqb}
 use Rattle.lists.proofs.Items.{next-of}
@@ -8,17 +8,17 @@ use borrow.Author.Needs.{needs}
 use mathlib.Core.Path.{_≡_, refl, sym, _∙_}
 use Prim.Native.Nat.{_≤_, _-_}
 use lib.ListN.{length, take, drop}
-use Rattle.lists.specs.Lists.{positions}
+use Rattle.lists.specs.Lists.{positionsNumber}
 use Rattle.lists.proofs.positions_number.Statement.{statement}
 use Rattle.lists.proofs.positions_number.Tie as tie
 use Rattle.lists.proofs.positions_number.Reads as reads
 use Rattle.lists.proofs.positions_number.Lts as lts
 
 abbrev none : ReadSegment
-none = record { position = 0; target = zeroSegment }
+none = zeroReadSegment
 
 abbrev Inv-loop : tie.InvT-loop
-Inv-loop n segments last₀ k₀ last k = (k ≤ n) × (positions 0 (take n segments) 0 ≡ positions last (drop k (take n segments)) 0)
+Inv-loop n segments last₀ k₀ last k = (k ≤ n) × (positionsNumber 0 (take n segments) 0 ≡ positionsNumber last (drop k (take n segments)) 0)
 
 abbrev μ-loop : tie.MeasureT-loop
 μ-loop n segments last₀ k₀ last k = n - k
@@ -37,7 +37,7 @@ array-copy-out-x c = search needs
 
 -- src/lib.rt:250:13
 returns : tie.Need-returns Inv-loop μ-loop
-unfolding positions
+unfolding positionsNumber
 returns c =
     let full : length (c .before .before .before .before .args .t1) ≡ 16 = search needs in
     let next = next-of (c .before .before .before .before .args .t1) (c .before .before .before .loop .k) (c .before .before .before .before .args .n) none (c .before .before .loop-test .taken) (omega arith) in
@@ -45,7 +45,7 @@ returns c =
 
 -- src/lib.rt:253:13
 returns-2 : tie.Need-returns-2 Inv-loop μ-loop
-unfolding positions
+unfolding positionsNumber
 returns-2 c =
     let full : length (c .before .before .before .before .before .args .t1) ≡ 16 = search needs in
     let next = next-of (c .before .before .before .before .before .args .t1) (c .before .before .before .before .loop .k) (c .before .before .before .before .before .args .n) none (c .before .before .before .loop-test .taken) (omega arith) in
@@ -61,7 +61,7 @@ loop-less c = search needs
 
 -- src/lib.rt:246:5
 loop-again : tie.Need-loop-again Inv-loop μ-loop
-unfolding positions
+unfolding positionsNumber
 loop-again c =
     let full : length (c .before .before .before .before .before .args .t1) ≡ 16 = search needs in
     let next = next-of (c .before .before .before .before .before .args .t1) (c .before .before .before .before .loop .k) (c .before .before .before .before .before .args .n) none (c .before .before .before .loop-test .taken) (omega arith) in
@@ -69,7 +69,7 @@ loop-again c =
 
 -- src/lib.rt:241:1
 returns-3 : tie.Need-returns-3 Inv-loop μ-loop
-unfolding positions
+unfolding positionsNumber
 returns-3 c =
     let full : length (take (c .before .before .args .n) (c .before .before .args .t1)) ≤ c .before .loop .k = rw length-take (omega arith) in
     sym (c .before .loop .inv .1 ∙ rw (drop-of-length-le _ full))

@@ -1,70 +1,70 @@
-use native.Mathlib.Omega.{arith}
-use Rattle.wire.specs.Wire.{wordBytes}
-use Rattle.writer.specs.Bytes.{errorBytes}
-use Rattle.wire.proofs.Laws.{then}
 use mathlib.Core.Path.{refl}
+use native.Mathlib.Omega.{arith}
 use borrow.Author.Needs.{needs}
+use Rattle.wire.specs.Wire.{wordBytes}
+use Rattle.wire.proofs.Laws.{then}
+use Rattle.writer.specs.Bytes.{errorBytes}
 use Rattle.writer.proofs.put_error.Statement.{statement}
 use Rattle.writer.proofs.put_error.Tie as tie
 
--- src/lib.rt:225:28
+-- src/lib.rt:252:28
 enum-known-e : tie.Need-enum-known-e
 enum-known-e c = search needs
 
--- src/lib.rt:226:13
+-- src/lib.rt:253:13
 put-word-requires : tie.Need-put-word-requires
 unfolding errorBytes wordBytes
 put-word-requires c κs = let h = simp (c .before .before .e .given .1) at (c .before .before .before .before .before .pre) in omega arith
 
--- src/lib.rt:227:33
+-- src/lib.rt:254:33
 add-put-word : tie.Need-add-put-word
 add-put-word c = search needs
 
--- src/lib.rt:227:13
+-- src/lib.rt:254:13
 put-word-requires-2 : tie.Need-put-word-requires-2
 unfolding errorBytes wordBytes
 put-word-requires-2 c κs = let h = simp (c .before .before .before .before .before .before .e .given .1) at (c .before .before .before .before .before .before .before .before .before .pre) in omega arith
 
--- src/lib.rt:228:33
+-- src/lib.rt:255:33
 add-put-word-2 : tie.Need-add-put-word-2
 add-put-word-2 c = search needs
 
--- src/lib.rt:228:13
+-- src/lib.rt:255:13
 put-word-requires-3 : tie.Need-put-word-requires-3
 unfolding errorBytes wordBytes
 put-word-requires-3 c κs = let h = simp (c .before .before .before .before .before .before .before .before .before .before .e .given .1) at (c .before .before .before .before .before .before .before .before .before .before .before .before .before .pre) in omega arith
 
--- src/lib.rt:229:13
+-- src/lib.rt:256:13
 add-result : tie.Need-add-result
 add-result c = search needs
 
--- src/lib.rt:232:28
+-- src/lib.rt:259:28
 enum-told : tie.Need-enum-told
 enum-told c = search needs
 
--- src/lib.rt:232:13
+-- src/lib.rt:259:13
 put-word-requires-4 : tie.Need-put-word-requires-4
 unfolding errorBytes wordBytes
 put-word-requires-4 c κs = let h = simp (c .before .enum-told .given .1) at (c .before .before .before .before .pre) in omega arith
 
--- src/lib.rt:233:13
+-- src/lib.rt:260:13
 add-result-2 : tie.Need-add-result-2
 add-result-2 c = search needs
 
--- src/lib.rt:220:1
+-- src/lib.rt:247:1
 same-length : tie.Need-same-length
 same-length c = search needs
 
--- src/lib.rt:220:1
+-- src/lib.rt:247:1
 returns : tie.Need-returns
 unfolding errorBytes wordBytes
 returns c = rw (c .before .before .before .before .before .before .before .before .before .before .before .before .before .e .given .1) (refl, then _ _ _ _ _ _ _ (then _ _ _ _ _ _ _ (c .before .before .before .before .before .before .before .before .before .before .put-word .ensures) (c .before .before .before .before .before .before .put-word2 .ensures) refl) (c .before .before .put-word3 .ensures) refl)
 
--- src/lib.rt:220:1
+-- src/lib.rt:247:1
 same-length-2 : tie.Need-same-length-2
 same-length-2 c = search needs
 
--- src/lib.rt:220:1
+-- src/lib.rt:247:1
 returns-2 : tie.Need-returns-2
 unfolding errorBytes wordBytes
 returns-2 c = rw (c .before .before .before .before .enum-told .given .1) (refl, c .before .before .put-word4 .ensures)

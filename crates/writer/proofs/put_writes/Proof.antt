@@ -1,15 +1,15 @@
+use mathlib.Core.Path.{_≡_, refl}
+use Prim.Native.Nat.{_+_, _*_, _≤_, _-_}
+use native.Mathlib.Omega.{arith}
+use lib.ListN.{getD, length, take}
 use lib.Seq.{length-take-le}
+use borrow.Author.Needs.{needs}
+use Rattle.wire.specs.Wire.{stored, joined}
 use Rattle.wire.proofs.Laws.{then}
-use Rattle.writer.proofs.Laws.{total-next, total-within, runs-next, joined-snoc, chunks-length}
+use Rattle.header.specs.Content.{runs}
 use Rattle.writer.specs.Write.{total}
 use Rattle.writer.specs.Bytes.{chunkBytes, writeListBytes}
-use Rattle.header.specs.Content.{runs}
-use Rattle.wire.specs.Wire.{stored, joined}
-use lib.ListN.{length, take}
-use Prim.Native.Nat.{_+_, _*_, _≤_, _-_}
-use mathlib.Core.Path.{_≡_, refl}
-use native.Mathlib.Omega.{arith}
-use borrow.Author.Needs.{needs}
+use Rattle.writer.proofs.Laws.{total-next, total-within, runs-next, joined-snoc, chunks-length}
 use Rattle.writer.proofs.put_writes.Statement.{statement}
 use Rattle.writer.proofs.put_writes.Tie as tie
 
@@ -20,106 +20,97 @@ Inv-loop out₀ k segments n counts end₀ used₀ j₀ out end used j =
 abbrev μ-loop : tie.MeasureT-loop
 μ-loop out₀ k segments n counts end₀ used₀ j₀ out end used j = n - j
 
--- src/lib.rt:196:5
+-- The segments of this chunk are among those of all.
+few : (c : tie.In-loop Inv-loop μ-loop) → total (take (c .before .loop .j) (c .before .before .before .args .t4)) + getD (c .before .before .before .args .t4) (c .before .loop .j) 0 ≤ total (take (c .before .before .before .args .n) (c .before .before .before .args .t4))
+few c =
+    let full : length (c .before .before .before .args .t4) ≡ 4 = search needs in
+    total-within (c .before .before .before .args .t4) (c .before .loop .j) (c .before .before .before .args .n) (c .loop-test .taken) (omega arith)
+
+-- The first chunks end where the loop stands.
+place : (c : tie.At-loop Inv-loop μ-loop) → total (take (c .loop .j) (c .before .before .args .t4)) ≤ 16 → c .before .before .args .k + length (joined chunkBytes (runs (take (c .loop .j) (c .before .before .args .t4)) (c .before .before .args .segments))) ≡ c .loop .end
+place c h =
+    let full : length (c .before .before .args .t4) ≡ 4 = search needs in
+    let whole : length (c .before .before .args .segments) ≡ 16 = search needs in
+    rw (chunks-length (take (c .loop .j) (c .before .before .args .t4)) (c .before .before .args .segments) (omega arith), length-take-le (c .loop .j) (c .before .before .args .t4) (omega arith)) (omega arith)
+
+-- src/lib.rt:223:5
 loop-holds : tie.Need-loop-holds Inv-loop μ-loop
 unfolding stored joined runs total
 loop-holds c = (search needs, refl, refl, omega arith, refl)
 
--- src/lib.rt:197:17
+-- src/lib.rt:224:17
 mul-d : tie.Need-mul-d Inv-loop μ-loop
 mul-d c = search needs
 
--- src/lib.rt:197:17
+-- src/lib.rt:224:17
 array-read-d : tie.Need-array-read-d Inv-loop μ-loop
 array-read-d c = search needs
 
--- src/lib.rt:197:17
+-- src/lib.rt:224:17
 cast-d : tie.Need-cast-d Inv-loop μ-loop
 cast-d c = search needs
 
--- src/lib.rt:198:9
+-- src/lib.rt:225:9
 put-chunk-requires : tie.Need-put-chunk-requires Inv-loop μ-loop
-put-chunk-requires c κs =
-    let full : length (c .before .before .before .before .args .t4) ≡ 4 = search needs in
-    let few = total-within (c .before .before .before .before .args .t4) (c .before .before .loop .j) (c .before .before .before .before .args .n) (c .before .loop-test .taken) (omega arith) in
-    search needs
+put-chunk-requires c κs = let h = few (c .before) in search needs
 
--- src/lib.rt:199:20
+-- src/lib.rt:226:20
 mul-end : tie.Need-mul-end Inv-loop μ-loop
-mul-end c =
-    let full : length (c .before .before .before .before .before .before .before .args .t4) ≡ 4 = search needs in
-    let few = total-within (c .before .before .before .before .before .before .before .args .t4) (c .before .before .before .before .before .loop .j) (c .before .before .before .before .before .before .before .args .n) (c .before .before .before .before .loop-test .taken) (omega arith) in
-    omega arith
+mul-end c = let h = few (c .before .before .before .before) in omega arith
 
--- src/lib.rt:199:16
+-- src/lib.rt:226:16
 add-end : tie.Need-add-end Inv-loop μ-loop
-add-end c =
-    let full : length (c .before .before .before .before .before .before .before .args .t4) ≡ 4 = search needs in
-    let few = total-within (c .before .before .before .before .before .before .before .args .t4) (c .before .before .before .before .before .loop .j) (c .before .before .before .before .before .before .before .args .n) (c .before .before .before .before .loop-test .taken) (omega arith) in
-    omega arith
+add-end c = let h = few (c .before .before .before .before) in omega arith
 
--- src/lib.rt:199:9
+-- src/lib.rt:226:9
 add-end-2 : tie.Need-add-end-2 Inv-loop μ-loop
-add-end-2 c =
-    let full : length (c .before .before .before .before .before .before .before .args .t4) ≡ 4 = search needs in
-    let few = total-within (c .before .before .before .before .before .before .before .args .t4) (c .before .before .before .before .before .loop .j) (c .before .before .before .before .before .before .before .args .n) (c .before .before .before .before .loop-test .taken) (omega arith) in
-    omega arith
+add-end-2 c = let h = few (c .before .before .before .before) in omega arith
 
--- src/lib.rt:200:9
+-- src/lib.rt:227:9
 add-used : tie.Need-add-used Inv-loop μ-loop
-add-used c =
-    let full : length (c .before .before .before .before .before .before .before .args .t4) ≡ 4 = search needs in
-    let few = total-within (c .before .before .before .before .before .before .before .args .t4) (c .before .before .before .before .before .loop .j) (c .before .before .before .before .before .before .before .args .n) (c .before .before .before .before .loop-test .taken) (omega arith) in
-    omega arith
+add-used c = let h = few (c .before .before .before .before) in omega arith
 
--- src/lib.rt:196:9
+-- src/lib.rt:223:9
 add-j : tie.Need-add-j Inv-loop μ-loop
 add-j c = search needs
 
--- src/lib.rt:196:5
+-- src/lib.rt:223:5
 loop-less : tie.Need-loop-less Inv-loop μ-loop
 loop-less c = search needs
 
--- src/lib.rt:196:5
+-- src/lib.rt:223:5
 loop-again : tie.Need-loop-again Inv-loop μ-loop
 loop-again c =
+    let h = few (c .before .before .before .before) in
     let full : length (c .before .before .before .before .before .before .before .args .t4) ≡ 4 = search needs in
-    let few = total-within (c .before .before .before .before .before .before .before .args .t4) (c .before .before .before .before .before .loop .j) (c .before .before .before .before .before .before .before .args .n) (c .before .before .before .before .loop-test .taken) (omega arith) in
-    let whole : length (c .before .before .before .before .before .before .before .args .segments) ≡ 16 = search needs in
     let next = total-next (c .before .before .before .before .before .before .before .args .t4) (c .before .before .before .before .before .loop .j) (omega arith) in
-    let place : c .before .before .before .before .before .before .before .args .k + length (joined chunkBytes (runs (take (c .before .before .before .before .before .loop .j) (c .before .before .before .before .before .before .before .args .t4)) (c .before .before .before .before .before .before .before .args .segments))) ≡ c .before .before .before .before .before .loop .end =
-    rw (chunks-length (take (c .before .before .before .before .before .loop .j) (c .before .before .before .before .before .before .before .args .t4)) (c .before .before .before .before .before .before .before .args .segments) (omega arith), length-take-le (c .before .before .before .before .before .loop .j) (c .before .before .before .before .before .before .before .args .t4) (omega arith)) (omega arith) in
-    (search needs, search needs, omega arith, omega arith, rw (runs-next (c .before .before .before .before .before .before .before .args .t4) (c .before .before .before .before .before .loop .j) (c .before .before .before .before .before .before .before .args .segments) (omega arith), joined-snoc, ← (c .before .before .before .before .before .loop .inv .2)) (then _ _ _ _ _ _ _ (c .before .before .before .before .before .loop .inv .4) (c .before .before .put-chunk .ensures) place))
+    (search needs, search needs, omega arith, omega arith, rw (runs-next (c .before .before .before .before .before .before .before .args .t4) (c .before .before .before .before .before .loop .j) (c .before .before .before .before .before .before .before .args .segments) (omega arith), joined-snoc, ← (c .before .before .before .before .before .loop .inv .2)) (then _ _ _ _ _ _ _ (c .before .before .before .before .before .loop .inv .4) (c .before .before .put-chunk .ensures) (place (c .before .before .before .before .before) (omega arith))))
 
--- src/lib.rt:202:5
+-- src/lib.rt:229:5
 put-word-requires : tie.Need-put-word-requires Inv-loop μ-loop
 put-word-requires c κs =
     let e : c .before .before .loop .j ≡ c .before .before .before .before .args .n = omega arith in
     let all : total (take (c .before .before .loop .j) (c .before .before .before .before .args .t4)) ≡ total (take (c .before .before .before .before .args .n) (c .before .before .before .before .args .t4)) = rw e in
     search needs
 
--- src/lib.rt:203:5
+-- src/lib.rt:230:5
 add-result : tie.Need-add-result Inv-loop μ-loop
 add-result c =
     let e : c .before .before .before .before .before .loop .j ≡ c .before .before .before .before .before .before .before .args .n = omega arith in
     let all : total (take (c .before .before .before .before .before .loop .j) (c .before .before .before .before .before .before .before .args .t4)) ≡ total (take (c .before .before .before .before .before .before .before .args .n) (c .before .before .before .before .before .before .before .args .t4)) = rw e in
     search needs
 
--- src/lib.rt:190:1
+-- src/lib.rt:211:1
 same-length : tie.Need-same-length Inv-loop μ-loop
 same-length c = search needs
 
--- src/lib.rt:190:1
+-- src/lib.rt:211:1
 returns : tie.Need-returns Inv-loop μ-loop
 unfolding writeListBytes
 returns c =
     let e : c .before .before .before .before .before .loop .j ≡ c .before .before .before .before .before .before .before .args .n = omega arith in
     let all : total (take (c .before .before .before .before .before .loop .j) (c .before .before .before .before .before .before .before .args .t4)) ≡ total (take (c .before .before .before .before .before .before .before .args .n) (c .before .before .before .before .before .before .before .args .t4)) = rw e in
-    let full : length (c .before .before .before .before .before .before .before .args .t4) ≡ 4 = search needs in
-    let whole : length (c .before .before .before .before .before .before .before .args .segments) ≡ 16 = search needs in
-    let place : c .before .before .before .before .before .before .before .args .k + length (joined chunkBytes (runs (take (c .before .before .before .before .before .before .before .args .n) (c .before .before .before .before .before .before .before .args .t4)) (c .before .before .before .before .before .before .before .args .segments))) ≡ c .before .before .before .before .before .loop .end =
-    rw (chunks-length (take (c .before .before .before .before .before .before .before .args .n) (c .before .before .before .before .before .before .before .args .t4)) (c .before .before .before .before .before .before .before .args .segments) (omega arith), length-take-le (c .before .before .before .before .before .before .before .args .n) (c .before .before .before .before .before .before .before .args .t4) (omega arith)) (omega arith) in
-    (omega arith, then _ _ _ _ _ _ _ (rw e at (c .before .before .before .before .before .loop .inv .4)) (c .before .before .put-word .ensures) place)
+    (omega arith, rw (← e) (then _ _ _ _ _ _ _ (c .before .before .before .before .before .loop .inv .4) (c .before .before .put-word .ensures) (place (c .before .before .before .before .before) (omega arith))))
 
 pub put-writes-spec : {M : Type 1} → statement M
 put-writes-spec =

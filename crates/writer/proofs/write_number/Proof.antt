@@ -1,89 +1,92 @@
-use Rattle.writer.specs.Write.{withinLimits, writeNumber}
-use Rattle.writer.specs.Bytes.{headerBytes}
-use Rattle.lists.specs.Parsed.{check}
-use Rattle.lists.specs.Lists.{positions}
+use mathlib.Core.Bool.{true}
+use mathlib.Core.Path.{_≡_, sym, _∙_}
 use lib.Dec.{leb}
 use lib.ListN.{take, length}
-use mathlib.Core.Bool.{true}
-use Rattle.writer.proofs.Laws.{Passed, passed, sized, positions-fault, positions-fine}
 use borrow.Author.Tests.{le-leb, lt-leb, not-true, not-false}
-use Rattle.header.specs.Content.{contentOf}
-use mathlib.Core.Path.{_≡_, sym, _∙_}
 use borrow.Author.Needs.{needs}
+use Rattle.lists.specs.Parsed.{check}
+use Rattle.lists.specs.Lists.{positionsNumber}
+use Rattle.header.specs.Content.{contentOf}
+use Rattle.writer.specs.Write.{withinLimits, writeNumber}
+use Rattle.writer.specs.Bytes.{headerBytes}
+use Rattle.writer.proofs.Laws.{Passed, passed, sized, positions-fault, positions-fine}
 use Rattle.writer.proofs.write_number.Statement.{statement}
 use Rattle.writer.proofs.write_number.Tie as tie
 
--- What the checks before have shown: both tests passed, and the positions are in order.
-within : (c : tie.Else2) → withinLimits (c .before .before .before .before .before .before .before .before .before .args .h .reads .count) (c .before .before .before .before .before .before .before .before .before .args .h .writes .chunks) (c .before .before .before .before .before .before .before .before .before .args .h .writes .counts) (c .before .before .before .before .before .before .before .before .before .args .h .reply .present) (c .before .before .before .before .before .before .before .before .before .args .h .reply .count) ≡ true
+-- The entry, from behind the check of the limits.
+abbrev entry : tie.Else2 → tie.Start
+entry c = c .before .before .before .before .before .before .before .before .before
+
+-- What that check has shown.
+within : (c : tie.Else2) → withinLimits (entry c .args .h .reads .count) (entry c .args .h .writes .chunks) (entry c .args .h .writes .counts) (entry c .args .h .reply .present) (entry c .args .h .reply .count) ≡ true
 within c = sym (c .before .within-limits .ensures) ∙ not-false (c .before .within-limits .result) (c .if2 .left)
 
-known : (c : tie.Else2) → Passed (c .before .before .before .before .before .before .before .before .before .args .h .reads) (c .before .before .before .before .before .before .before .before .before .args .h .writes) (c .before .before .before .before .before .before .before .before .before .args .h .reply)
+known : (c : tie.Else2) → Passed (entry c .args .h .reads) (entry c .args .h .writes) (entry c .args .h .reply)
 known c =
-    let g = c .before .before .before .before .before .before .before .before .before .good .0 .1 .1 in
-    passed (c .before .before .before .before .before .before .before .before .before .args .h .reads) (c .before .before .before .before .before .before .before .before .before .args .h .writes) (c .before .before .before .before .before .before .before .before .before .args .h .reply) _ _ _ (g .0) (g .1 .0) (g .1 .1 .0) (within c)
+    let g = entry c .good .0 .1 .1 in
+    passed (entry c .args .h .reads) (entry c .args .h .writes) (entry c .args .h .reply) _ _ _ (g .0) (g .1 .0) (g .1 .1 .0) (within c)
 
--- The number of a header that passed both.
-then-positions : (c : tie.Else2) → writeNumber (c .before .before .before .before .before .before .before .before .before .args .h) (c .before .before .before .before .before .before .before .before .before .args .room) ≡ positions 0 (take (c .before .before .before .before .before .before .before .before .before .args .h .reads .count) (c .before .before .before .before .before .before .before .before .before .args .h .reads .segments)) (check (leb (length (headerBytes (contentOf (c .before .before .before .before .before .before .before .before .before .args .h)))) 1024) 21 (check (leb (length (headerBytes (contentOf (c .before .before .before .before .before .before .before .before .before .args .h)))) (c .before .before .before .before .before .before .before .before .before .args .room)) 16 0))
+-- The number then, and the number behind the check of the positions.
+then-positions : (c : tie.Else2) → writeNumber (entry c .args .h) (entry c .args .room) ≡ positionsNumber 0 (take (entry c .args .h .reads .count) (entry c .args .h .reads .segments)) (check (leb (length (headerBytes (contentOf (entry c .args .h)))) 1024) 21 (check (leb (length (headerBytes (contentOf (entry c .args .h)))) (entry c .args .room)) 16 0))
 unfolding writeNumber contentOf
 then-positions c = simp (← (c .before .before .before .bare-if-error .ensures), not-false (c .before .before .before .bare-if-error .result) (c .before .before .if1 .left), within c)
 
--- The number of a header whose positions are in order.
-then-length : (c : tie.After-header-length) → writeNumber (c .before .before .before .before .before .before .before .before .before .before .before .before .before .before .before .args .h) (c .before .before .before .before .before .before .before .before .before .before .before .before .before .before .before .args .room) ≡ check (leb (c .header-length .result) 1024) 21 (check (leb (c .header-length .result) (c .before .before .before .before .before .before .before .before .before .before .before .before .before .before .before .args .room)) 16 0)
+then-length : (c : tie.After-header-length) → writeNumber (entry (c .before .before .before .before .before .before) .args .h) (entry (c .before .before .before .before .before .before) .args .room) ≡ check (leb (c .header-length .result) 1024) 21 (check (leb (c .header-length .result) (entry (c .before .before .before .before .before .before) .args .room)) 16 0)
 then-length c =
-    let size = sized (c .before .before .before .before .before .before .before .before .before .before .before .before .before .before .before .args .h) (c .header-length .result) (known (c .before .before .before .before .before .before)) (c .header-length .ensures) in
+    let size = sized (entry (c .before .before .before .before .before .before) .args .h) (c .header-length .result) (known (c .before .before .before .before .before .before)) (c .header-length .ensures) in
     then-positions (c .before .before .before .before .before .before) ∙ simp (positions-fine 0 _ (sym (c .before .before .before .before .positions-number .ensures) ∙ c .before .before .before .if3 .left), size)
 
--- src/lib.rt:134:9
+-- src/lib.rt:142:9
 bare-if-error-requires : tie.Need-bare-if-error-requires
 bare-if-error-requires c κs = search needs
 
--- src/lib.rt:135:9
+-- src/lib.rt:143:9
 returns : tie.Need-returns
 unfolding writeNumber
 returns c = simp (← (c .before .bare-if-error .ensures), not-true (c .before .bare-if-error .result) (c .if1 .taken))
 
--- src/lib.rt:137:9
+-- src/lib.rt:145:9
 within-limits-requires : tie.Need-within-limits-requires
 within-limits-requires c κs = search needs
 
--- src/lib.rt:138:9
+-- src/lib.rt:152:9
 returns-2 : tie.Need-returns-2
 unfolding writeNumber
 returns-2 c = simp (← (c .before .before .before .bare-if-error .ensures), not-false (c .before .before .before .bare-if-error .result) (c .before .before .if1 .left), ← (c .before .within-limits .ensures), not-true (c .before .within-limits .result) (c .if2 .taken))
 
--- src/lib.rt:140:13
+-- src/lib.rt:154:13
 cast-n : tie.Need-cast-n
 cast-n c = search needs
 
--- src/lib.rt:141:9
+-- src/lib.rt:155:9
 positions-number-requires : tie.Need-positions-number-requires
 positions-number-requires c κs = known (c .before) .few-reads
 
--- src/lib.rt:143:9
+-- src/lib.rt:157:9
 returns-3 : tie.Need-returns-3
 returns-3 c = sym (then-positions (c .before .before .before) ∙ positions-fault 0 _ (λ e. c .if3 .taken (c .before .positions-number .ensures ∙ e)) _ ∙ sym (c .before .positions-number .ensures))
 
--- src/lib.rt:145:41
+-- src/lib.rt:162:9
 cast-header-length : tie.Need-cast-header-length
 cast-header-length c = search needs
 
--- src/lib.rt:145:88
+-- src/lib.rt:165:9
 cast-header-length-2 : tie.Need-cast-header-length-2
 cast-header-length-2 c = search needs
 
--- src/lib.rt:145:9
+-- src/lib.rt:159:9
 header-length-requires : tie.Need-header-length-requires
 header-length-requires c κs = let k = known (c .before .before .before .before .before) in (k .few-reads, k .few-chunks, k .few-segments, k .few-replies)
 
--- src/lib.rt:147:9
+-- src/lib.rt:168:9
 returns-4 : tie.Need-returns-4
 returns-4 c = sym (then-length (c .before) ∙ simp (lt-leb _ _ (c .if4 .taken)))
 
--- src/lib.rt:150:9
+-- src/lib.rt:171:9
 returns-5 : tie.Need-returns-5
 returns-5 c = sym (then-length (c .before .before) ∙ simp (le-leb _ _ (c .before .if4 .left), lt-leb _ _ (c .if5 .taken)))
 
--- src/lib.rt:125:1
+-- src/lib.rt:133:1
 returns-6 : tie.Need-returns-6
 returns-6 c = sym (then-length (c .before .before) ∙ simp (le-leb _ _ (c .before .if4 .left), le-leb _ _ (c .if5 .left)))
 
