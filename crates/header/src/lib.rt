@@ -88,7 +88,7 @@ fn walk_lists(s: &[u8], kind: Kind) -> FrameWalk
     requires { ⌜ 16 ≤ length (now s) ⌝ }
     ensures { λ r. ⌜ r ≡ frameWalk (length (now (s .entry))) (threeParts kind (wordAt (now (s .entry)) 0) (wordAt (now (s .entry)) 8) (drop 16 (now (s .entry)))) ⌝ }
 {
-    let reads = lists::walk_reads(&s[16..], lists::READ_SEGMENTS, 0);
+    let reads = lists::walk_reads(&s[16..]);
     let ListWalk::Done(n, behind_reads) = reads else {
         return FrameWalk::Refused(list_refusal(reads));
     };
@@ -250,7 +250,7 @@ fn fill_header(s: &[u8], shape: Shape) -> Header
         counts: [0u32; 4],
         chunks: chunks as u32,
     };
-    let writes = lists::fill_writes(&s[w..], chunks, 0, 0, empty);
+    let writes = lists::fill_writes(&s[w..], chunks, empty);
     let end = shape.end;
     let run = lists::fill_segments(s, end - m * 16, m, 0, [z; 16]);
     let reply = ReplyChunk {

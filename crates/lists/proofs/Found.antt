@@ -13,7 +13,7 @@ use Rattle.wire.specs.declared.Segment.{Segment}
 use Rattle.wire.specs.declared.ReadSegment.{ReadSegment}
 use Rattle.lists.specs.Parsed.{Parsed, refused, done, andThen, prepend, each}
 use Rattle.lists.specs.Lists.{markerOf, readList, counted, writeList, replyChunk}
-use Rattle.lists.specs.Steps.{chunkStep, listWalk, markedSegmentAt, chunksAt, ChunksFit}
+use Rattle.lists.specs.Steps.{chunkStep, listWalk, packedWalk, markedSegmentAt, chunksAt, ChunksFit}
 use Rattle.lists.specs.declared.Marker.the-variants as marker
 use Rattle.lists.specs.declared.ChunkStep.the-variants as chunk
 use Rattle.lists.specs.declared.ListWalk.the-variants as walk
@@ -78,18 +78,66 @@ reads-of zero last s l t e = go (read-front zero last s)
   where
     go : ReadFront zero last s → ReadsAre zero s l t
     go (ends f h is) = reads-none zero s l t h (sym is ∙ e)
-    go (faulty n f is) = absurd (never (sym is ∙ e))
+    go (faulty n f small is) = absurd (never (sym is ∙ e))
     go (laws.ReadFront.goes x f h long at4 is) = absurd (omega arith)
 reads-of (suc room) last s l t e = go (read-front (suc room) last s) (reads-of room)
   where
     go : ReadFront (suc room) last s → ((last : ℕ) (s : List ℕ) (l : List ReadSegment) (t : List ℕ) → readList room last s ≡ done l t → ReadsAre room s l t) → ReadsAre (suc room) s l t
     go (ends f h is) again = reads-none (suc room) s l t h (sym is ∙ e)
-    go (faulty n f is) again = absurd (never (sym is ∙ e))
+    go (faulty n f small is) again = absurd (never (sym is ∙ e))
     go (laws.ReadFront.goes x f h long at4 is) again =
         let r : suc room - 1 ≡ room = omega arith in
         let q : prepend x (readList room (x .position) (drop 24 s)) ≡ done l t = rw (← r) (sym is ∙ e) in
         let m = longer x (readList room (x .position) (drop 24 s)) l t q in
         rw (m .is) (reads-more room s x (m .rest) t long at4 (again (x .position) (drop 24 s) (m .rest) t (m .read)))
+
+-- No fault of a read list has a number above 9.
+pub read-number : (room last : ℕ) (s : List ℕ) (n : ℕ) → readList room last s ≡ refused n → n ≤ 9
+read-number zero last s n e = go (read-front zero last s)
+  where
+    go : ReadFront zero last s → n ≤ 9
+    go (ends f h is) = absurd (never (sym e ∙ is))
+    go (faulty m f small is) = let same : refused m ≡ refused n = sym is ∙ e in let equal : m ≡ n = cc in omega arith
+    go (laws.ReadFront.goes x f h long at4 is) = absurd (omega arith)
+read-number (suc room) last s n e = go (read-front (suc room) last s) (read-number room)
+  where
+    behind : (x : ReadSegment) (p : Parsed (List ReadSegment)) → prepend x p ≡ refused n → p ≡ refused n
+    behind x (refused m) q = q
+    behind x (done l t) q = absurd (never (sym q))
+
+    go : ReadFront (suc room) last s → ((last : ℕ) (s : List ℕ) (n : ℕ) → readList room last s ≡ refused n → n ≤ 9) → n ≤ 9
+    go (ends f h is) again = absurd (never (sym e ∙ is))
+    go (faulty m f small is) again = let same : refused m ≡ refused n = sym is ∙ e in let equal : m ≡ n = cc in omega arith
+    go (laws.ReadFront.goes x f h long at4 is) again =
+        let r : suc room - 1 ≡ room = omega arith in
+        let q : prepend x (readList room (x .position) (drop 24 s)) ≡ refused n = rw (← r) (sym is ∙ e) in
+        again (x .position) (drop 24 s) n (behind x (readList room (x .position) (drop 24 s)) q)
+
+-- The read list at the front of s, by the answer as one number.
+module _ (s : List ℕ) (r : ℕ) (e : r ≡ packedWalk 0 (readList 16 0 s)) where
+  pub packed-refused : 256 ≤ r → (r ≤ 265) × (walk.Refused (r - 256) ≡ listWalk 0 (readList 16 0 s))
+  unfolding packedWalk listWalk
+  packed-refused h = go (readList 16 0 s) refl e
+    where
+      go : (p : Parsed (List ReadSegment)) → readList 16 0 s ≡ p → r ≡ packedWalk 0 p → (r ≤ 265) × (walk.Refused (r - 256) ≡ listWalk 0 (readList 16 0 s))
+      go (refused n) q f =
+          let small = read-number 16 0 s n q in
+          let number : r - 256 ≡ n = omega arith in
+          (omega arith, rw (q, number))
+      go (done l t) q f = absurd (omega (arith, reads-of 16 0 s l t q .few))
+
+  pub packed-done : r < 256 → (4 + r * 24 ≤ length s) × (walk.Done r (length s - 4 - r * 24) ≡ listWalk 0 (readList 16 0 s))
+  unfolding packedWalk listWalk
+  packed-done h = go (readList 16 0 s) refl e
+    where
+      go : (p : Parsed (List ReadSegment)) → readList 16 0 s ≡ p → r ≡ packedWalk 0 p → (4 + r * 24 ≤ length s) × (walk.Done r (length s - 4 - r * 24) ≡ listWalk 0 (readList 16 0 s))
+      go (refused n) q f = absurd (omega arith)
+      go (done l t) q f =
+          let a = reads-of 16 0 s l t q in
+          let many : r ≡ length l = omega arith in
+          let size : length t ≡ length s - (4 + length l * 24) = ap length (a .behind) ∙ length-drop (4 + length l * 24) s in
+          let left : length s - 4 - r * 24 ≡ length t = omega arith in
+          (omega (arith, a .long), rw (q, left) (ap (λ (k : ℕ). walk.Done k (length t)) f))
 
 -- A write list that was read.
 pub record WritesAre (room left : ℕ) (s : List ℕ) (cs : List (List Segment)) (t : List ℕ) : Type 0 where

@@ -1,6 +1,6 @@
 -- Laws about the lists of a header: what a step says of the list, and what a list that was read says of the bytes.
 -- Assumes nothing.
-use mathlib.Core.Path.{_≡_, refl, sym, ap, _∙_}
+use mathlib.Core.Path.{_≡_, refl, sym, ap, subst, _∙_}
 use mathlib.Core.Bool.{Bool, true, false, cond}
 use mathlib.Core.List.{List, [], _∷_, _++_, map}
 use Prim.Native.Nat.{ℕ, zero, suc, _+_, _-_, _*_, _%_, _≤_, _<_}
@@ -17,7 +17,7 @@ use Rattle.wire.specs.declared.Segment.{Segment}
 use Rattle.wire.specs.declared.ReadSegment.{ReadSegment}
 use Rattle.lists.specs.Parsed.{Parsed, refused, done, andThen, require, prepend, each}
 use Rattle.lists.specs.Lists.{markerWord, markerOf, afterMarker, optional, readEntry, readList, segments, afterCount, counted, writeList, replyChunk}
-use Rattle.lists.specs.Steps.{entryStep, readMarked, readStep, countStep, chunkMarked, chunkStep, listWalk, chunksAt, ChunksFit, withChunks}
+use Rattle.lists.specs.Steps.{entryStep, readMarked, readStep, countStep, chunkMarked, chunkStep, listWalk, packedWalk, chunksAt, ChunksFit, withChunks}
 use Rattle.lists.specs.declared.Marker.{Marker}
 use Rattle.lists.specs.declared.Marker.the-variants as marker
 use Rattle.lists.specs.declared.ReadStep.{ReadStep}
@@ -99,10 +99,34 @@ entry-of last s x u e =
     let d : done (readSegmentAt s 0) (drop 20 s) ≡ done x u = c .1 in
     record { long = leb-true 20 (length s) (a .0); is = cc; behind = cc; aligned = eqb-true (wordAt s 0 % 4) 0 (b .0); rises = leb-true last (wordAt s 0) (c .0) }
 
+-- The numbers that a marker and an entry can give.
+marker-number : (s : List ℕ) (n : ℕ) → markerOf s ≡ marker.Refused n → n ≤ 9
+unfolding markerOf wordOf
+marker-number s n e = go (leb 4 (length s)) e
+  where
+    valued : (zeroth first : Bool) → cond zeroth marker.End (cond first marker.Entry (marker.Refused 6)) ≡ marker.Refused n → n ≤ 9
+    valued true first q = absurd (let z : _≡_ {A = ℕ} 0 1 = cc in omega arith)
+    valued false true q = absurd (let z : _≡_ {A = ℕ} 0 1 = cc in omega arith)
+    valued false false q = let six : 6 ≡ n = cc in omega arith
+
+    go : (b : Bool) → markerWord (cond b (word.Value (wordAt s 0)) (word.Refused 5)) ≡ marker.Refused n → n ≤ 9
+    go true q = valued (eqb (wordAt s 0) 0) (eqb (wordAt s 0) 1) q
+    go false q = let five : 5 ≡ n = cc in omega arith
+
+entry-number : (last : ℕ) (s : List ℕ) (n : ℕ) → readEntry last s ≡ refused n → n ≤ 9
+unfolding readEntry
+entry-number last s n e = go (leb 20 (length s)) (eqb (wordAt s 0 % 4) 0) (leb last (wordAt s 0)) e
+  where
+    go : (a b c : Bool) → require a 5 (require b 9 (require c 8 (done (readSegmentAt s 0) (drop 20 s)))) ≡ refused n → n ≤ 9
+    go true true true q = absurd (never (sym q))
+    go true true false q = let eight : 8 ≡ n = cc in omega arith
+    go true false c q = let nine : 9 ≡ n = cc in omega arith
+    go false b c q = let five : 5 ≡ n = cc in omega arith
+
 -- The three things that can stand at the front of a read list.
 pub data ReadFront (room last : ℕ) (s : List ℕ) : Type 0 where
   ends : readStep room last s ≡ read.End → 4 ≤ length s → readList room last s ≡ done [] (drop 4 s) → ReadFront room last s
-  faulty : (n : ℕ) → readStep room last s ≡ read.Refused n → readList room last s ≡ refused n → ReadFront room last s
+  faulty : (n : ℕ) → readStep room last s ≡ read.Refused n → n ≤ 9 → readList room last s ≡ refused n → ReadFront room last s
   goes : (x : ReadSegment) → readStep room last s ≡ read.Entry (x .position) → 0 < room → 24 ≤ length s → x ≡ readSegmentAt s 4 →
       readList room last s ≡ prepend x (readList (room - 1) (x .position) (drop 24 s)) → ReadFront room last s
 
@@ -111,13 +135,13 @@ unfolding readStep readList
 read-front zero last s = go (markerOf s) refl
   where
     go : (m : Marker) → markerOf s ≡ m → ReadFront zero last s
-    go (marker.Refused n) e = faulty n (rw e) (rw e)
+    go (marker.Refused n) e = faulty n (rw e) (marker-number s n e) (rw e)
     go marker.End e = ends (rw e) (end-room s e) (rw e)
-    go marker.Entry e = faulty 7 (rw e) (rw e)
+    go marker.Entry e = faulty 7 (rw e) (omega arith) (rw e)
 read-front (suc room) last s = go (markerOf s) refl
   where
     entered : markerOf s ≡ marker.Entry → (p : Parsed ReadSegment) → readEntry last (drop 4 s) ≡ p → ReadFront (suc room) last s
-    entered e (refused n) q = faulty n (rw (e, eqb·suc-zero room, q)) (rw (e, q))
+    entered e (refused n) q = faulty n (rw (e, eqb·suc-zero room, q)) (entry-number last (drop 4 s) n q) (rw (e, q))
     entered e (done x u) q =
         let h = entry-of last (drop 4 s) x u q in
         let four = entry-room s e in
@@ -127,7 +151,7 @@ read-front (suc room) last s = go (markerOf s) refl
         goes x (rw (e, eqb·suc-zero room, q)) (omega arith) (omega (arith, h .long, length-drop 4 s)) is (rw (e, q, rest, room-is))
 
     go : (m : Marker) → markerOf s ≡ m → ReadFront (suc room) last s
-    go (marker.Refused n) e = faulty n (rw e) (rw e)
+    go (marker.Refused n) e = faulty n (rw e) (marker-number s n e) (rw e)
     go marker.End e = ends (rw e) (end-room s e) (rw e)
     go marker.Entry e = entered e (readEntry last (drop 4 s)) refl
 
@@ -214,40 +238,46 @@ unfolding listWalk
 walk-prepend before x (refused n) = refl
 walk-prepend before x (done l t) = let e : before + 1 + length l ≡ before + suc (length l) = omega arith in rw e
 
+-- The same of the answer as one number.
+packed-prepend : {A : Type 0} (before : ℕ) (x : A) (p : Parsed (List A)) → packedWalk (before + 1) p ≡ packedWalk before (prepend x p)
+unfolding packedWalk
+packed-prepend before x (refused n) = refl
+packed-prepend before x (done l t) = omega arith
+
 -- What a checking of the read list answers, by its step.
 module _ (room last : ℕ) (s : List ℕ) where
-  pub read-end : readStep room last s ≡ read.End → (4 ≤ length s) × ((before : ℕ) → walk.Done before (length s - 4) ≡ listWalk before (readList room last s))
-  unfolding listWalk
-  read-end e = go (read-front room last s)
+  pub read-end : readStep room last s ≡ read.End → (before : ℕ) → before ≡ packedWalk before (readList room last s)
+  unfolding packedWalk
+  read-end e before = go (read-front room last s)
     where
-      go : ReadFront room last s → (4 ≤ length s) × ((before : ℕ) → walk.Done before (length s - 4) ≡ listWalk before (readList room last s))
-      go (ends f long is) = (long, λ before. rw (is, add-zero, length-drop))
-      go (faulty n f is) = absurd (let z : _≡_ {A = ℕ} 0 1 = cc in omega arith)
+      go : ReadFront room last s → before ≡ packedWalk before (readList room last s)
+      go (ends f long is) = rw (is, add-zero)
+      go (faulty n f small is) = absurd (let z : _≡_ {A = ℕ} 0 1 = cc in omega arith)
       go (goes x f pos long at4 is) = absurd (let z : _≡_ {A = ℕ} 0 1 = cc in omega arith)
 
-  pub read-refused : (n : ℕ) → readStep room last s ≡ read.Refused n → (before : ℕ) → walk.Refused n ≡ listWalk before (readList room last s)
-  unfolding listWalk
+  pub read-refused : (n : ℕ) → readStep room last s ≡ read.Refused n → (before : ℕ) → 256 + n ≡ packedWalk before (readList room last s)
+  unfolding packedWalk
   read-refused n e before = go (read-front room last s)
     where
-      go : ReadFront room last s → walk.Refused n ≡ listWalk before (readList room last s)
+      go : ReadFront room last s → 256 + n ≡ packedWalk before (readList room last s)
       go (ends f long is) = absurd (let z : _≡_ {A = ℕ} 0 1 = cc in omega arith)
-      go (faulty m f is) = let same : n ≡ m = cc in rw (is, same)
+      go (faulty m f small is) = let same : n ≡ m = cc in rw (is, same)
       go (goes x f pos long at4 is) = absurd (let z : _≡_ {A = ℕ} 0 1 = cc in omega arith)
 
   pub record Further (p : ℕ) : Type 0 where
     pub room-left : 0 < room
     pub long : 24 ≤ length s
-    pub rest : (before : ℕ) → listWalk (before + 1) (readList (room - 1) p (drop 24 s)) ≡ listWalk before (readList room last s)
+    pub rest : (before : ℕ) → packedWalk (before + 1) (readList (room - 1) p (drop 24 s)) ≡ packedWalk before (readList room last s)
 
   pub read-further : (p : ℕ) → readStep room last s ≡ read.Entry p → Further p
   read-further p e = go (read-front room last s)
     where
       go : ReadFront room last s → Further p
       go (ends f long is) = absurd (let z : _≡_ {A = ℕ} 0 1 = cc in omega arith)
-      go (faulty m f is) = absurd (let z : _≡_ {A = ℕ} 0 1 = cc in omega arith)
+      go (faulty m f small is) = absurd (let z : _≡_ {A = ℕ} 0 1 = cc in omega arith)
       go (goes x f pos long at4 is) =
           let same : p ≡ x .position = cc in
-          record { room-left = pos; long = long; rest = λ before. rw (is, same) (walk-prepend before x _) }
+          record { room-left = pos; long = long; rest = λ before. rw (is, same) (packed-prepend before x _) }
 
 -- The write list, by what stands at its front.
 module _ (left : ℕ) (s : List ℕ) where
@@ -369,3 +399,61 @@ pub with-next : (before used d : ℕ) (w : WriteList) (c filled : List Segment) 
 unfolding withChunks joined
 with-next before used d w c filled cs e f =
     rw (e, f, stored-append (w .segments) used c (joined (λ x. x) cs), store-cons (w .counts) before (length c) (map length cs))
+
+-- A write list that is being filled chunk by chunk: what is still to be stored leads to the whole.
+pub record Filling (s : List ℕ) (n : ℕ) (list w : WriteList) (from used i : ℕ) : Type 0 where
+  pub within : i ≤ n
+  pub few : used ≤ 16
+  pub there : from ≤ length s
+  pub fits : ChunksFit (n - i) (16 - used) (drop from s)
+  pub rest : withChunks i used w (chunksAt (n - i) (drop from s)) ≡ withChunks 0 0 list (chunksAt n s)
+
+pub filling-starts : (s : List ℕ) (n : ℕ) (list : WriteList) → ChunksFit n 16 s → Filling s n list list 0 0 0
+filling-starts s n list fits =
+    let all : n - 0 ≡ n = omega arith in
+    record {
+      within = omega arith;
+      few = omega arith;
+      there = omega arith;
+      fits = rw all fits;
+      rest = rw all;
+    }
+
+module _ (s : List ℕ) (n : ℕ) (list w : WriteList) (from used i : ℕ) (f : Filling s n list w from used i) where
+  module _ (more : i < n) (d : ℕ) (is : d ≡ wordAt s (from + 4)) where
+    left : n - i ≡ 0 → ⊥
+    left e = omega arith
+
+    word-is-there : wordAt (drop from s) 4 ≡ d
+    word-is-there = word-drop from 4 s ∙ sym is
+
+    next-fits : (8 + d * 16 ≤ length (drop from s)) × (d ≤ 16 - used) × ChunksFit (n - i - 1) (16 - used - d) (drop (8 + d * 16) (drop from s))
+    next-fits = subst (λ (k : ℕ). (8 + k * 16 ≤ length (drop from s)) × (k ≤ 16 - used) × ChunksFit (n - i - 1) (16 - used - k) (drop (8 + k * 16) (drop from s))) word-is-there (fit-next (n - i) left (drop from s) (16 - used) (f .fits))
+
+    pub filling-fits : (from + (8 + d * 16) ≤ length s) × (used + d ≤ 16)
+    filling-fits = let there = f .there in let few = f .few in (omega (arith, next-fits .0, length-drop from s), omega (arith, next-fits .1))
+
+    pub filling-next : (filled : List Segment) → filled ≡ stored (w .segments) used (each 16 (λ t. segmentAt t 0) d (drop (from + 8) s)) →
+        Filling s n list (record { segments = filled; counts = set (w .counts) i d; chunks = w .chunks }) (from + (8 + d * 16)) (used + d) (i + 1)
+    filling-next filled e =
+        let fewer : n - i - 1 ≡ n - (i + 1) = omega arith in
+        let room : 16 - used - d ≡ 16 - (used + d) = omega arith in
+        let further : drop (8 + d * 16) (drop from s) ≡ drop (from + (8 + d * 16)) s = drop-drop (8 + d * 16) from s in
+        let many : length (each 16 (λ t. segmentAt t 0) d (drop 8 (drop from s))) ≡ d = length-each 16 (λ t. segmentAt t 0) d (drop 8 (drop from s)) in
+        let there : filled ≡ stored (w .segments) used (each 16 (λ t. segmentAt t 0) d (drop 8 (drop from s))) = e ∙ ap (λ (u : List ℕ). stored (w .segments) used (each 16 (λ t. segmentAt t 0) d u)) (sym (drop-drop 8 from s)) in
+        let step = with-next i used d w (each 16 (λ t. segmentAt t 0) d (drop 8 (drop from s))) filled (chunksAt (n - i - 1) (drop (8 + d * 16) (drop from s))) (sym many) there in
+        let first : chunksAt (n - i) (drop from s) ≡ each 16 (λ t. segmentAt t 0) d (drop 8 (drop from s)) ∷ chunksAt (n - i - 1) (drop (8 + d * 16) (drop from s)) =
+        subst (λ (k : ℕ). chunksAt (n - i) (drop from s) ≡ each 16 (λ t. segmentAt t 0) k (drop 8 (drop from s)) ∷ chunksAt (n - i - 1) (drop (8 + k * 16) (drop from s))) word-is-there (chunks-next (n - i) left (drop from s)) in
+        let whole = step ∙ ap (withChunks i used w) (sym first) ∙ f .rest in
+        record {
+          within = omega arith;
+          few = filling-fits .1;
+          there = filling-fits .0;
+          fits = rw (← fewer, ← room, ← further) (next-fits .2);
+          rest = rw (← fewer, ← further) whole;
+        }
+
+  pub filling-ends : n ≤ i → w ≡ withChunks 0 0 list (chunksAt n s)
+  filling-ends h =
+      let all : n - i ≡ 0 = omega arith in
+      with-none i used w (drop from s) ∙ ap (λ (k : ℕ). withChunks i used w (chunksAt k (drop from s))) (sym all) ∙ f .rest

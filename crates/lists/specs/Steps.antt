@@ -53,6 +53,11 @@ unfoldable pub listWalk : {A : Type 0} → ℕ → Parsed (List A) → ListWalk
 listWalk before (refused n) = walk.Refused n
 listWalk before (done l t) = walk.Done (before + length l) (length t)
 
+-- The same as one number, without the bytes left: a refusal is 256 and its number.
+unfoldable pub packedWalk : {A : Type 0} → ℕ → Parsed (List A) → ℕ
+packedWalk before (refused n) = 256 + n
+packedWalk before (done l t) = before + length l
+
 -- The chunks of a write list that was read, by their count words: the next count word stands behind a marker.
 unfoldable pub chunksAt : ℕ → List ℕ → List (List Segment)
 chunksAt zero s = []

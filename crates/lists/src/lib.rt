@@ -9,7 +9,7 @@ ghost use lib.ListN.{length, take, drop};
 ghost use Rattle.wire.specs.Wire.{segmentAt, stored};
 ghost use Rattle.lists.specs.Parsed.{each};
 ghost use Rattle.lists.specs.Lists.{markerOf, readEntry, readList, positionsNumber, counted, writeList};
-ghost use Rattle.lists.specs.Steps.{entryStep, readStep, countStep, chunkStep, listWalk, markedSegmentAt, zeroReads, chunksAt, ChunksFit, withChunks};
+ghost use Rattle.lists.specs.Steps.{entryStep, readStep, countStep, chunkStep, listWalk, packedWalk, markedSegmentAt, zeroReads, chunksAt, ChunksFit, withChunks};
 
 // "Limits: 16 read segments; 4 write chunks holding 16 segments together; 16 segments in the reply chunk"
 pub const READ_SEGMENTS: usize = 16;
@@ -28,6 +28,9 @@ pub const OVER_LIMIT: u32 = 7;
 pub const POSITION_FALLS: u32 = 8;
 // "a read position that is no multiple of 4"
 pub const POSITION_UNALIGNED: u32 = 9;
+
+// Above the answers of a walk over a read list: a refusal, with its number added.
+const REFUSED: usize = 256;
 
 pub struct ReadList {
     pub segments: [ReadSegment; 16],
@@ -123,17 +126,29 @@ fn read_step(s: &[u8], room: usize, last: u32) -> ReadStep
     }
 }
 
-// Checks the read list at the front of s, of at most `room` entries, behind an entry at the position `last`.
-pub fn walk_reads(s: &[u8], room: usize, last: u32) -> ListWalk
+// Checks the read list at the front of s, of at most `room` entries, behind an entry at the position `last`. The answer is
+// one number, how many entries there are or REFUSED and the number: an enum would be copied at each level.
+fn walk_entries(s: &[u8], room: usize, last: u32) -> usize
     requires { ⌜ room ≤ 16 ⌝ }
-    ensures { λ r. ⌜ r ≡ listWalk (16 - room) (readList room last (now (s .entry))) ⌝ }
+    ensures { λ r. ⌜ r ≡ packedWalk (16 - room) (readList room last (now (s .entry))) ⌝ }
 {
     let step = read_step(s, room, last);
     match step {
-        ReadStep::End => ListWalk::Done(READ_SEGMENTS - room, s.len() - 4),
-        ReadStep::Refused(number) => ListWalk::Refused(number),
-        ReadStep::Entry(position) => walk_reads(&s[24..], room - 1, position),
+        ReadStep::End => READ_SEGMENTS - room,
+        ReadStep::Refused(number) => REFUSED + number as usize,
+        ReadStep::Entry(position) => walk_entries(&s[24..], room - 1, position),
     }
+}
+
+// Checks the read list at the front of s.
+pub fn walk_reads(s: &[u8]) -> ListWalk
+    ensures { λ r. ⌜ r ≡ listWalk 0 (readList 16 0 (now (s .entry))) ⌝ }
+{
+    let answer = walk_entries(s, READ_SEGMENTS, 0);
+    if REFUSED <= answer {
+        return ListWalk::Refused((answer - REFUSED) as u32);
+    }
+    ListWalk::Done(answer, s.len() - 4 - answer * 24)
 }
 
 // The counted run of segments at the front of s, where `left` segments may come.
@@ -227,23 +242,29 @@ pub fn fill_segments(
     to
 }
 
-// The n chunks of a write list that was checked, stored behind `i` chunks that have `used` segments.
-pub fn fill_writes(s: &[u8], n: usize, i: usize, used: usize, list: WriteList) -> WriteList
-    requires { ⌜ (i + n ≤ 4) × (used ≤ 16) × ChunksFit n (16 - used) (now s) ⌝ }
-    ensures { λ r. ⌜ r ≡ withChunks i used list (chunksAt n (now (s .entry))) ⌝ }
+// The n chunks of a write list that was checked, stored into an empty one.
+pub fn fill_writes(s: &[u8], n: usize, list: WriteList) -> WriteList
+    requires { ⌜ (n ≤ 4) × ChunksFit n 16 (now s) ⌝ }
+    ensures { λ r. ⌜ r ≡ withChunks 0 0 list (chunksAt n (now (s .entry))) ⌝ }
 {
-    if n == 0 {
-        return list;
+    let mut segments = list.segments;
+    let mut counts = list.counts;
+    let mut from = 0;
+    let mut used = 0;
+    for i in 0..n {
+        let count = wire::word_at(s, from + 4);
+        let d = count as usize;
+        counts[i] = count;
+        let filled = fill_segments(s, from + 8, d, used, segments);
+        segments = filled;
+        from += 8 + d * 16;
+        used += d;
     }
-    let count = wire::word_at(s, 4);
-    let d = count as usize;
-    let mut next = list;
-    next.counts[i] = count;
-    let segments = next.segments;
-    let filled = fill_segments(s, 8, d, used, segments);
-    next.segments = filled;
-    let end = 8 + d * 16;
-    fill_writes(&s[end..], n - 1, i + 1, used + d, next)
+    WriteList {
+        segments,
+        counts,
+        chunks: list.chunks,
+    }
 }
 
 // The number of the first read entry at fault, or 0.

@@ -150,7 +150,7 @@ fill-writes-requires c κs =
     let m = ap (λ (x : Shape). x .chunks) (f .shape-is) in
     let r = ap (λ (x : Shape). x .replies) (f .shape-is) in
     let e = ap (λ (x : Shape). x .end) (f .shape-is) in
-    (omega (arith, f .lies .writes-few), omega arith, rw part-from (chunks-fit s shape f))
+    (omega (arith, f .lies .writes-few), rw part-from (chunks-fit s shape f))
 
 -- src/lib.rt:252:45
 mul-fill-segments : tie.Need-mul-fill-segments
