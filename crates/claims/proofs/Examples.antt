@@ -1,16 +1,17 @@
 -- The worked examples hold.
 -- Assumes nothing.
 use mathlib.Core.Path.{_≡_, refl}
-use Rattle.wire.specs.Wire.{wordAt, wordOf, joined, wordBytes, segmentBytes, readSegmentBytes}
-use Rattle.lists.specs.Lists.{markerOf, readList, writeList, replyChunk, positionsNumber}
+use Rattle.wire.specs.Wire.{wordAt, wordOf, segmentAt, readSegmentAt, joined, wordBytes, segmentBytes, readSegmentBytes}
+use Rattle.lists.specs.Lists.{markerOf, readEntry, readList, segments, counted, writeList, replyChunk, positionsNumber}
+use Rattle.lists.specs.Parsed.{each}
 use Rattle.header.specs.Content.{headerOf, contentOf, runs}
 use Rattle.header.specs.Frame.{threeParts, byProcedure, readFrame}
 use Rattle.writer.specs.Bytes.{headerBytes, fixedBytes, readListBytes, writeListBytes, replyBytes, chunkBytes, countedBytes, entryBytes}
-use Rattle.writer.specs.Write.{writeAnswer, writeNumber, withinLimits, total}
+use Rattle.writer.specs.Write.{writeAnswer, writtenInto, writeNumber, withinLimits, total}
 use Rattle.claims.specs.RoundTrip.{All}
 use Rattle.claims.specs.Examples.{Example, Holds, words, examples}
 
 -- "C1 to C13 are proved from the definitions as one list with one claim over it."
 pub worked : All Holds examples
-unfolding All words joined wordBytes readFrame byProcedure threeParts readList writeList replyChunk markerOf wordOf wordAt writeAnswer writeNumber withinLimits total positionsNumber headerOf contentOf runs headerBytes fixedBytes readListBytes writeListBytes replyBytes chunkBytes countedBytes entryBytes segmentBytes readSegmentBytes
-worked = ((refl, refl), ((refl, refl), ((refl, refl), ((refl, refl), ((refl, refl), (refl, tt))))))
+unfolding All words joined wordBytes readFrame byProcedure threeParts readList readEntry segments counted each writeList replyChunk markerOf wordOf wordAt segmentAt readSegmentAt writeAnswer writtenInto writeNumber withinLimits total positionsNumber headerOf contentOf runs headerBytes fixedBytes readListBytes writeListBytes replyBytes chunkBytes countedBytes entryBytes segmentBytes readSegmentBytes
+worked = ((refl, refl), ((refl, refl), ((refl, refl), ((refl, refl), ((refl, refl), ((refl, refl), tt))))))

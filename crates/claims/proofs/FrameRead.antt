@@ -28,7 +28,8 @@ use Rattle.wire.specs.declared.Word.{Word}
 use Rattle.wire.specs.declared.Word.the-variants as word
 use Rattle.claims.proofs.Allowed.{Allowed, BareIfError, Behind}
 use Rattle.claims.proofs.Words.{bytes-drop, word-fits, word-front}
-use Rattle.claims.proofs.WriteBack.{refused-done, require-done, and-then-done, done-same, bytes-behind, word-of-front, ReadListRead, read-list-done, WriteListRead, write-list-done, ReplyRead, reply-done}
+use Rattle.claims.proofs.WriteBack.{done-same, bytes-behind, word-of-front, ReadListRead, read-list-done, WriteListRead, write-list-done, ReplyRead, reply-done}
+use Rattle.lists.proofs.Laws.{never, required, both}
 
 -- What stands behind the fixed words, read.
 record BodyRead (kind : Kind) (xid credit : ℕ) (s : List ℕ) (c : Content) (t : List ℕ) : Type 0 where
@@ -74,15 +75,15 @@ three-parts-done : (kind : Kind) (xid credit : ℕ) (s : List ℕ) (c : Content)
     threeParts kind xid credit s ≡ done c t → BodyRead kind xid credit s c t
 unfolding threeParts
 three-parts-done kind xid credit s c t k x y b e =
-    let one = and-then-done (readList 16 0 s) _ c t e in
-    let reads = read-list-done 16 0 s (one .value) (one .rest) b (one .first) in
-    let bu = bytes-behind (readListBytes (one .value)) (one .rest) s (reads .bytes) b in
-    let two = and-then-done (writeList 4 16 (one .rest)) _ c t (one .second) in
-    let writes = write-list-done 4 16 (one .rest) (two .value) (two .rest) bu (two .first) in
-    let bv = bytes-behind (writeListBytes (two .value)) (two .rest) (one .rest) (writes .bytes) bu in
-    let three = and-then-done (replyChunk (two .rest)) _ c t (two .second) in
-    let reply = reply-done (two .rest) (three .value) (three .rest) bv (three .first) in
-    done-same (BodyRead kind xid credit s) _ c (three .rest) t (three .second) (parts-read kind xid credit s _ _ _ _ _ _ k x y reads writes reply)
+    let one = both (readList 16 0 s) e in
+    let reads = read-list-done 16 0 s (one .first) (one .behind) b (one .is) in
+    let bu = bytes-behind (readListBytes (one .first)) (one .behind) s (reads .bytes) b in
+    let two = both (writeList 4 16 (one .behind)) (one .then) in
+    let writes = write-list-done 4 16 (one .behind) (two .first) (two .behind) bu (two .is) in
+    let bv = bytes-behind (writeListBytes (two .first)) (two .behind) (one .behind) (writes .bytes) bu in
+    let three = both (replyChunk (two .behind)) (two .then) in
+    let reply = reply-done (two .behind) (three .first) (three .behind) bv (three .is) in
+    done-same (BodyRead kind xid credit s) _ c (three .behind) t (three .then) (parts-read kind xid credit s _ _ _ _ _ _ k x y reads writes reply)
 
 -- A word that was read, and what it decided.
 record WordRead {A : Type 0} (w : Word) (next : ℕ → Parsed A) (a : A) (t : List ℕ) : Type 0 where
@@ -92,7 +93,7 @@ record WordRead {A : Type 0} (w : Word) (next : ℕ → Parsed A) (a : A) (t : L
 
 -- What a word decided was decided by a word that was there.
 after-word-done : {A : Type 0} (w : Word) (next : ℕ → Parsed A) (a : A) (t : List ℕ) → afterWord w next ≡ done a t → WordRead w next a t
-after-word-done (word.Refused n) next a t e = absurd (refused-done n a t e)
+after-word-done (word.Refused n) next a t e = absurd (never e)
 after-word-done (word.Value x) next a t e = record { value = x; there = refl; onward = e }
 
 -- An ERROR header that was read.
@@ -160,15 +161,15 @@ error-done xid credit s c t x y b e =
     by-code code false true p q w e =
         let is : code ≡ 2 = eqb-true code 2 q in
         done-same (ErrorRead xid credit s) _ c (drop 4 s) t e (error-read Chunk xid credit s (drop 4 s) x y tt (subst (λ (n : ℕ). wordBytes n ++ drop 4 s ≡ s) is w))
-    by-code code false false p q w e = absurd (refused-done 10 c t e)
+    by-code code false false p q w e = absurd (never e)
 
 -- "bytes behind a NOMSG or ERROR header": there are none.
 nothing-behind-done : (p : Parsed Content) (c : Content) (t : List ℕ) → nothingBehind p ≡ done c t → (p ≡ done c t) × (t ≡ [])
 nothing-behind-done p c t e =
-    let one = and-then-done p (λ d u. require (eqb (length u) 0) 11 (done d u)) c t e in
-    let two = require-done (eqb (length (one .rest)) 0) 11 (done (one .value) (one .rest)) c t (one .second) in
-    let w : t ≡ one .rest = cc in
-    (one .first ∙ two .1, w ∙ empty (one .rest) (eqb-true (length (one .rest)) 0 (two .0)))
+    let one = both p e in
+    let two = required (eqb (length (one .behind)) 0) 11 (done (one .first) (one .behind)) (one .then) in
+    let w : t ≡ one .behind = cc in
+    (one .is ∙ two .1, w ∙ empty (one .behind) (eqb-true (length (one .behind)) 0 (two .0)))
   where
     empty : (l : List ℕ) → length l ≡ 0 → l ≡ []
     empty [] h = refl
@@ -205,12 +206,12 @@ procedure-done n xid credit s c t x y b e = go (eqb n 0) (eqb n 1) (eqb n 3) (eq
           behind = f .1;
           body = three-parts-done Nomsg xid credit s c t (record { fits = tt; bare = λ d. tt; rest = λ l. refl }) x y b (f .0);
         }
-    go false false true b4 p q r e = absurd (refused-done 4 c t e)
+    go false false true b4 p q r e = absurd (never e)
     go false false false true p q r e =
         let f = nothing-behind-done (errorBody xid credit s) c t e in
         let g = error-done xid credit s c t x y b (f .0) in
         record { kind = Error (g .error); same-procedure = sym (eqb-true n 4 r); behind = f .1; body = g .body }
-    go false false false false p q r e = absurd (refused-done 3 c t e)
+    go false false false false p q r e = absurd (never e)
 
 -- A frame that was read: its bytes, and what holds of its content.
 pub record FrameRead (s : List ℕ) (c : Content) (t : List ℕ) : Type 0 where
@@ -231,8 +232,8 @@ fixed-front s kind xid credit r b long version p x y e =
 pub frame-done : (s : List ℕ) (c : Content) (t : List ℕ) → AllBytes s → readFrame s ≡ done c t → FrameRead s c t
 unfolding readFrame headerBytes
 frame-done s c t b e =
-    let long = require-done (leb 16 (length s)) 1 _ c t e in
-    let version = require-done (eqb (wordAt s 4) 1) 2 _ c t (long .1) in
+    let long = required (leb 16 (length s)) 1 _ e in
+    let version = required (eqb (wordAt s 4) 1) 2 _ (long .1) in
     let r = procedure-done (wordAt s 12) (wordAt s 0) (wordAt s 8) (drop 16 s) c t (word-fits s 0 b) (word-fits s 8 b) (bytes-drop 16 s b) (version .1) in
     record {
       bytes = simp (r .body .same-kind, append-assoc)

@@ -54,7 +54,7 @@ lengths-fit (c ∷ cs) h = (omega arith, lengths-fit cs (omega arith))
 
 -- An empty place fits.
 zero-fits : SegmentFits zeroSegment
-zero-fits = record { handle = omega arith; length = omega arith; offset = omega arith }
+zero-fits = record { handle-fits = omega arith; length-fits = omega arith; offset-fits = omega arith }
 
 -- The struct of a reply chunk that is allowed can be held.
 reply-held : (o : Option (List Segment)) → ReplyAllowed o →

@@ -50,6 +50,17 @@ pub written-read-answer : (h : Header) (out : List ℕ) → Representable h → 
     × (payloadOf (readFrame (take (writeAnswer h (length out) .length) (writtenInto h out))) ≡ [])
 written-read-answer h out r e = simp (written-read h out r e, headerOf-contentOf h (length out) r e) (refl, refl)
 
+-- "Unused places .. the writer ignores them": with them zeroed the same is written.
+pub zeroed-written : (h : Header) (out : List ℕ) → Representable h → writeNumber h (length out) ≡ 0 →
+    (writeAnswer (zeroed h) (length out) ≡ writeAnswer h (length out)) × (writtenInto (zeroed h) out ≡ writtenInto h out)
+unfolding writeAnswer writtenInto
+zeroed-written h out r e =
+    let passed = write-passed h (length out) e in
+    let same : zeroed h ≡ headerOf (contentOf h) = sym (headerOf-contentOf h (length out) r e) in
+    let content : contentOf (zeroed h) ≡ contentOf h = ap contentOf same ∙ contentOf-headerOf (contentOf h) in
+    let number : writeNumber (zeroed h) (length out) ≡ 0 = rw same (passed-write (headerOf (contentOf h)) (length out) (allowed-passed (contentOf h) (length out) (content-allowed h (length out) r passed) (passed .fits))) in
+    simp (number, e, content) (refl, refl)
+
 -- "what was read, written again, gives the frame's bytes before its payload"
 pub read-written : (s out : List ℕ) (c : Content) (t : List ℕ) → AllBytes s → readFrame s ≡ done c t → length s ≤ length out + length t →
     (writeAnswer (headerOf c) (length out) ≡ record { number = 0; length = length s - length t })

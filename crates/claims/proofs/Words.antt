@@ -108,7 +108,7 @@ unfolding segmentAt
 segment-fits s k b =
     let high = word-fits s (k + 8) b in
     let low = word-fits s (k + 12) b in
-    record { handle = word-fits s k b; length = word-fits s (k + 4) b; offset = omega arith }
+    record { handle-fits = word-fits s k b; length-fits = word-fits s (k + 4) b; offset-fits = omega arith }
 
 -- A read segment of bytes fits.
 pub read-segment-fits : (s : List ℕ) (k : ℕ) → AllBytes s → ReadSegmentFits (readSegmentAt s k)
@@ -119,9 +119,9 @@ read-segment-fits s k b = record { position = word-fits s k b; target = segment-
 pub segment-back : (x : Segment) (r : List ℕ) → SegmentFits x → segmentAt (segmentBytes x ++ r) 0 ≡ x
 unfolding segmentAt segmentBytes wordAt wordBytes
 segment-back x r f =
-    let a = join-bytes (x .handle) (f .handle) in
-    let b = join-bytes (x .length) (f .length) in
-    let o = f .offset in
+    let a = join-bytes (x .handle) (f .handle-fits) in
+    let b = join-bytes (x .length) (f .length-fits) in
+    let o = f .offset-fits in
     let c = join-bytes (x .offset / 4294967296) (omega arith) in
     let d = join-bytes (x .offset % 4294967296) (omega arith) in
     let e : x .offset / 4294967296 * 4294967296 + x .offset % 4294967296 ≡ x .offset = omega arith in

@@ -1,6 +1,6 @@
 -- What was read, written again, gives the bytes that it was read from.
 -- Assumes nothing.
-use mathlib.Core.Path.{_≡_, refl, ap, subst}
+use mathlib.Core.Path.{_≡_, refl, sym, ap, subst}
 use mathlib.Core.Bool.{Bool, true, false, cond}
 use mathlib.Core.List.{List, [], _∷_, _++_, append-assoc, map}
 use mathlib.Core.Option.{Option, none, some}
@@ -24,27 +24,9 @@ use Rattle.lists.specs.declared.Marker.the-variants as marker
 use Rattle.claims.proofs.Allowed.{ReplyAllowed}
 use Rattle.claims.proofs.ReadBack.{read-entry-first, chunk-first}
 use Rattle.claims.proofs.Words.{bytes-drop, word-fits, word-front, segment-front, read-segment-front, segment-fits, read-segment-fits}
-
--- A refused reading is not done.
-pub refused-done : {A : Type 0} (n : ℕ) (a : A) (t : List ℕ) → refused n ≡ done a t → ⊥
-refused-done n a t e = let z : _≡_ {A = ℕ} 0 1 = cc in omega arith
-
--- What was required, where there was no fault.
-pub require-done : {A : Type 0} (holds : Bool) (n : ℕ) (p : Parsed A) (a : A) (t : List ℕ) → require holds n p ≡ done a t → (holds ≡ true) × (p ≡ done a t)
-require-done true n p a t e = (refl, e)
-require-done false n p a t e = absurd (refused-done n a t e)
-
--- A reading of two steps, where there was no fault: what the first gave and left.
-pub record Split {A B : Type 0} (p : Parsed A) (next : A → List ℕ → Parsed B) (b : B) (u : List ℕ) : Type 0 where
-  pub value : A
-  pub rest : List ℕ
-  pub first : p ≡ done value rest
-  pub second : next value rest ≡ done b u
-
--- A reading of two steps that was done did both.
-pub and-then-done : {A B : Type 0} (p : Parsed A) (next : A → List ℕ → Parsed B) (b : B) (u : List ℕ) → andThen p next ≡ done b u → Split p next b u
-and-then-done (refused n) next b u e = absurd (refused-done n b u e)
-and-then-done (done a t) next b u e = record { value = a; rest = t; first = refl; second = e }
+use Rattle.lists.proofs.Items.{length-each}
+use Rattle.lists.proofs.Laws.{never, required, both}
+use Rattle.lists.proofs.Found.{longer}
 
 -- What holds of one reading holds of the same reading.
 pub done-same : {A : Type 0} (P : A → List ℕ → Type 0) (a b : A) (t u : List ℕ) → done a t ≡ done b u → P a t → P b u
@@ -52,20 +34,6 @@ done-same {A} P a b t u e p =
     let v : a ≡ b = cc in
     let w : t ≡ u = cc in
     subst (λ (s : List ℕ). P b s) w (subst (λ (x : A). P x t) v p)
-
--- A list that was read behind its first element.
-record Prepended {A : Type 0} (x : A) (p : Parsed (List A)) (l : List A) (t : List ℕ) : Type 0 where
-  tail : List A
-  pub first : p ≡ done tail t
-  whole : x ∷ tail ≡ l
-
--- A list with one more at the front that was read was read without it.
-prepend-done : {A : Type 0} (x : A) (p : Parsed (List A)) (l : List A) (t : List ℕ) → prepend x p ≡ done l t → Prepended x p l t
-prepend-done x (refused n) l t e = absurd (refused-done n l t e)
-prepend-done x (done xs u) l t e =
-    let v : x ∷ xs ≡ l = cc in
-    let w : u ≡ t = cc in
-    record { tail = xs; first = simp w; whole = v }
 
 -- What stands behind some bytes of s is bytes, where s is.
 pub bytes-behind : (u t s : List ℕ) → u ++ t ≡ s → AllBytes s → AllBytes t
@@ -104,10 +72,10 @@ optional-done absent present s a t b e = by-word (wordOf s) refl e
     by-value x false true p q w e =
         let x1 : x ≡ 1 = eqb-true x 1 q in
         entered (simp (← x1) (word-of-front s x b w .0)) e
-    by-value x false false p q w e = absurd (refused-done 6 a t e)
+    by-value x false false p q w e = absurd (never e)
 
     by-word : (w : Word) → wordOf s ≡ w → afterMarker (markerWord w) (drop 4 s) absent present ≡ done a t → OptionalRead absent present s a t
-    by-word (word.Refused n) p q = absurd (refused-done n a t q)
+    by-word (word.Refused n) p q = absurd (never q)
     by-word (word.Value x) p q = by-value x (eqb x 0) (eqb x 1) refl refl p q
 
 -- An entry of the read list that was read.
@@ -121,9 +89,9 @@ record EntryRead (last : ℕ) (s : List ℕ) (x : ReadSegment) (t : List ℕ) : 
 entry-done : (last : ℕ) (s : List ℕ) (x : ReadSegment) (t : List ℕ) → AllBytes s → readEntry last s ≡ done x t → EntryRead last s x t
 unfolding readEntry readSegmentAt
 entry-done last s x t b e =
-    let p = require-done (leb 20 (length s)) 5 _ x t e in
-    let q = require-done (eqb (wordAt s 0 % 4) 0) 9 _ x t (p .1) in
-    let r = require-done (leb last (wordAt s 0)) 8 _ x t (q .1) in
+    let p = required (leb 20 (length s)) 5 _ e in
+    let q = required (eqb (wordAt s 0 % 4) 0) 9 _ (p .1) in
+    let r = required (leb last (wordAt s 0)) 8 _ (q .1) in
     done-same (EntryRead last s) (readSegmentAt s 0) x (drop 20 s) t (r .1) (record {
       bytes = read-segment-front s 0 20 b refl (leb-true 20 (length s) (p .0));
       fits = read-segment-fits s 0 b;
@@ -162,7 +130,7 @@ read-list-done zero last s l t b e = go (optional-done [] (λ u. refused 7) s l 
   where
     go : OptionalRead [] (λ u. refused 7) s l t → ReadListRead zero last s l t
     go (ended n m) = reads-ended zero last s l t n m
-    go (entered m f) = absurd (refused-done 7 l t f)
+    go (entered m f) = absurd (never f)
 read-list-done (suc room) last s l t b e = go (optional-done [] next s l t b e) (read-list-done room)
   where
     next : List ℕ → Parsed (List ReadSegment)
@@ -173,12 +141,12 @@ read-list-done (suc room) last s l t b e = go (optional-done [] next s l t b e) 
         ReadListRead (suc room) last s l t
     go (ended n m) ih = reads-ended (suc room) last s l t n m
     go (entered m f) ih =
-        let one = and-then-done (readEntry last (drop 4 s)) (λ x v. prepend x (readList room (x .position) v)) l t f in
-        let x = one .value in
-        let entry = entry-done last (drop 4 s) x (one .rest) (bytes-drop 4 s b) (one .first) in
-        let two = prepend-done x (readList room (x .position) (one .rest)) l t (one .second) in
-        let more = ih (x .position) (one .rest) (two .tail) t (bytes-behind (readSegmentBytes x) (one .rest) (drop 4 s) (entry .bytes) (bytes-drop 4 s b)) (two .first) in
-        subst (λ (k : List ReadSegment). ReadListRead (suc room) last s k t) (two .whole) (reads-entered room last s (one .rest) x (two .tail) t m entry more)
+        let one = both (readEntry last (drop 4 s)) f in
+        let x = one .first in
+        let entry = entry-done last (drop 4 s) x (one .behind) (bytes-drop 4 s b) (one .is) in
+        let two = longer x (readList room (x .position) (one .behind)) l t (one .then) in
+        let more = ih (x .position) (one .behind) (two .rest) t (bytes-behind (readSegmentBytes x) (one .behind) (drop 4 s) (entry .bytes) (bytes-drop 4 s b)) (two .read) in
+        subst (λ (k : List ReadSegment). ReadListRead (suc room) last s k t) (sym (two .is)) (reads-entered room last s (one .behind) x (two .rest) t m entry more)
 
 -- Segments that were read one behind the other are what stood there.
 each-front : (n : ℕ) (s : List ℕ) → AllBytes s → n * 16 ≤ length s → joined segmentBytes (each 16 (λ t. segmentAt t 0) n s) ++ drop (n * 16) s ≡ s
@@ -188,12 +156,6 @@ each-front (suc n) s b h =
     let k : suc n * 16 ≡ 16 + n * 16 = omega arith in
     simp (k, append-assoc, ← drop-drop, each-front n (drop 16 s) (bytes-drop 16 s b) (simp length-drop (omega arith)))
     (segment-front s 0 16 b refl (omega arith))
-
--- As many segments are read as were asked for.
-each-length : (n : ℕ) (s : List ℕ) → length (each 16 (λ t. segmentAt t 0) n s) ≡ n
-unfolding each
-each-length zero s = refl
-each-length (suc n) s = ap suc (each-length n (drop 16 s))
 
 -- Segments of bytes fit.
 each-fits : (n : ℕ) (s : List ℕ) → AllBytes s → All SegmentFits (each 16 (λ t. segmentAt t 0) n s)
@@ -213,17 +175,17 @@ unfolding counted segments countedBytes
 counted-done left s c t b e = go (wordOf s) refl e
   where
     go : (w : Word) → wordOf s ≡ w → afterCount w left (drop 4 s) ≡ done c t → CountedRead left s c t
-    go (word.Refused n) p q = absurd (refused-done n c t q)
+    go (word.Refused n) p q = absurd (never q)
     go (word.Value n) p q =
         let u = drop 4 s in
-        let room = require-done (leb n left) 7 (segments n u) c t q in
-        let there = require-done (leb (n * 16) (length u)) 5 (done (each 16 (λ v. segmentAt v 0) n u) (drop (n * 16) u)) c t (room .1) in
+        let room = required (leb n left) 7 (segments n u) q in
+        let there = required (leb (n * 16) (length u)) 5 (done (each 16 (λ v. segmentAt v 0) n u) (drop (n * 16) u)) (room .1) in
         let bu = bytes-drop 4 s b in
         let le = leb-true n left (room .0) in
         done-same (CountedRead left s) (each 16 (λ v. segmentAt v 0) n u) c (drop (n * 16) u) t (there .1) (record {
-          bytes = simp (each-length n u, append-assoc, each-front n u bu (leb-true (n * 16) (length u) (there .0))) (word-of-front s n b p .0);
+          bytes = simp (length-each 16 (λ v. segmentAt v 0) n u, append-assoc, each-front n u bu (leb-true (n * 16) (length u) (there .0))) (word-of-front s n b p .0);
           fits = each-fits n u bu;
-          limit = simp (each-length n u) le;
+          limit = simp (length-each 16 (λ v. segmentAt v 0) n u) le;
         })
 
 -- A write list that was read.
@@ -257,7 +219,7 @@ write-list-done zero left s cs t b e = go (optional-done [] (λ u. refused 7) s 
   where
     go : OptionalRead [] (λ u. refused 7) s cs t → WriteListRead zero left s cs t
     go (ended n m) = writes-ended zero left s cs t n m
-    go (entered m f) = absurd (refused-done 7 cs t f)
+    go (entered m f) = absurd (never f)
 write-list-done (suc room) left s cs t b e = go (optional-done [] next s cs t b e) (write-list-done room)
   where
     next : List ℕ → Parsed (List (List Segment))
@@ -268,12 +230,12 @@ write-list-done (suc room) left s cs t b e = go (optional-done [] next s cs t b 
         WriteListRead (suc room) left s cs t
     go (ended n m) ih = writes-ended (suc room) left s cs t n m
     go (entered m f) ih =
-        let one = and-then-done (counted left (drop 4 s)) (λ c v. prepend c (writeList room (left - length c) v)) cs t f in
-        let c = one .value in
-        let chunk = counted-done left (drop 4 s) c (one .rest) (bytes-drop 4 s b) (one .first) in
-        let two = prepend-done c (writeList room (left - length c) (one .rest)) cs t (one .second) in
-        let more = ih (left - length c) (one .rest) (two .tail) t (bytes-behind (countedBytes c) (one .rest) (drop 4 s) (chunk .bytes) (bytes-drop 4 s b)) (two .first) in
-        subst (λ (k : List (List Segment)). WriteListRead (suc room) left s k t) (two .whole) (writes-entered room left s (one .rest) c (two .tail) t m chunk more)
+        let one = both (counted left (drop 4 s)) f in
+        let c = one .first in
+        let chunk = counted-done left (drop 4 s) c (one .behind) (bytes-drop 4 s b) (one .is) in
+        let two = longer c (writeList room (left - length c) (one .behind)) cs t (one .then) in
+        let more = ih (left - length c) (one .behind) (two .rest) t (bytes-behind (countedBytes c) (one .behind) (drop 4 s) (chunk .bytes) (bytes-drop 4 s b)) (two .read) in
+        subst (λ (k : List (List Segment)). WriteListRead (suc room) left s k t) (sym (two .is)) (writes-entered room left s (one .behind) c (two .rest) t m chunk more)
 
 -- A reply chunk that was read.
 pub record ReplyRead (s : List ℕ) (o : Option (List Segment)) (t : List ℕ) : Type 0 where
@@ -291,7 +253,7 @@ reply-done s o t b e = go (optional-done none next s o t b e)
     go : OptionalRead none next s o t → ReplyRead s o t
     go (ended n m) = simp n (record { bytes = m; allowed = tt })
     go (entered m f) =
-        let one = and-then-done (counted 16 (drop 4 s)) (λ c v. done (some c) v) o t f in
-        let c = one .value in
-        let chunk = counted-done 16 (drop 4 s) c (one .rest) (bytes-drop 4 s b) (one .first) in
-        done-same (ReplyRead s) (some c) o (one .rest) t (one .second) (record { bytes = simp (append-assoc, chunk .bytes) m; allowed = (chunk .limit, chunk .fits) })
+        let one = both (counted 16 (drop 4 s)) f in
+        let c = one .first in
+        let chunk = counted-done 16 (drop 4 s) c (one .behind) (bytes-drop 4 s b) (one .is) in
+        done-same (ReplyRead s) (some c) o (one .behind) t (one .then) (record { bytes = simp (append-assoc, chunk .bytes) m; allowed = (chunk .limit, chunk .fits) })

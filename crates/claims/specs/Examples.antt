@@ -9,19 +9,21 @@ use Rattle.header.specs.Frame.{readFrame, readAnswer, payloadOf}
 use Rattle.header.specs.Content.{headerOf}
 use Rattle.header.specs.declared.Header.{Header}
 use Rattle.header.specs.declared.Kind.the-variants.{Msg}
-use Rattle.writer.specs.Write.{writeAnswer}
+use Rattle.writer.specs.Write.{writeAnswer, writtenInto}
 use mathlib.Core.Option.{some}
 
 -- What a worked example says.
 pub data Example : Type 0 where
   -- reading a frame gives a number and a payload
   frame-reads : List ℕ → ℕ → List ℕ → Example
-  -- writing a header into as many bytes gives 0 and uses them all
+  -- writing a header into as many bytes gives 0 and uses them all, and reading them gives the header again
   header-takes : Header → ℕ → Example
 
 abbrev pub Holds : Example → Type 0
 Holds (frame-reads frame number payload) = (readAnswer (readFrame frame) .number ≡ number) × (payloadOf (readFrame frame) ≡ payload)
-Holds (header-takes h size) = writeAnswer h size ≡ record { number = 0; length = size }
+Holds (header-takes h size) =
+    (writeAnswer h size ≡ record { number = 0; length = size })
+    × (readAnswer (readFrame (writtenInto h (replicate size 0))) ≡ record { header = h; number = 0 })
 
 -- A frame given by its words.
 unfoldable pub words : List ℕ → List ℕ
@@ -42,7 +44,7 @@ full = headerOf (record {
   reply = some (replicate 16 (record { handle = 1; length = 2; offset = 3 }));
 })
 
--- C1 to C5 and C13, in the document's order.
+-- C1 to C5 and C13, in the document's order, as far as reading and writing go.
 abbrev pub examples : List Example
 examples =
     frame-reads [] 1 []

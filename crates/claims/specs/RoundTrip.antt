@@ -31,9 +31,9 @@ All P (x ∷ l) = P x × All P l
 
 -- A segment whose numbers fit their fields: "a segment's offset has 64 bits".
 pub record SegmentFits (x : Segment) : Type 0 where
-  pub handle : Word32 (x .handle)
-  pub length : Word32 (x .length)
-  pub offset : x .offset < 18446744073709551616
+  pub handle-fits : Word32 (x .handle)
+  pub length-fits : Word32 (x .length)
+  pub offset-fits : x .offset < 18446744073709551616
 
 -- A read segment whose numbers fit their fields.
 pub record ReadSegmentFits (x : ReadSegment) : Type 0 where

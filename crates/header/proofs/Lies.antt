@@ -404,3 +404,27 @@ payload-short s = go (readFrame s) refl
     go : (p : Parsed Content) → readFrame s ≡ p → length (payloadOf p) ≤ length s
     go (refused n) e = omega arith
     go (done c t) e = frame-lies s c t e .reply .short
+
+-- The bounds that a shape keeps.
+pub record Bounds (s : List ℕ) (shape : Shape) : Type 0 where
+  pub reads-few : shape .reads ≤ 16
+  pub reads-long : 20 + shape .reads * 24 ≤ length s
+  pub chunks-few : shape .chunks ≤ 4
+  pub replies-few : shape .replies ≤ 16
+  pub replies-long : shape .replies * 16 ≤ shape .end
+  pub end-short : shape .end ≤ length s
+
+pub bounds : (s : List ℕ) (shape : Shape) → Found s shape → Bounds s shape
+bounds s shape f =
+    let n = ap (λ (x : Shape). x .reads) (f .shape-is) in
+    let m = ap (λ (x : Shape). x .chunks) (f .shape-is) in
+    let r = ap (λ (x : Shape). x .replies) (f .shape-is) in
+    let e = ap (λ (x : Shape). x .end) (f .shape-is) in
+    record {
+      reads-few = omega (arith, f .lies .reads-few);
+      reads-long = omega (arith, f .lies .reads-long);
+      chunks-few = omega (arith, f .lies .writes-few);
+      replies-few = omega (arith, f .lies .reply .few);
+      replies-long = omega (arith, f .lies .reply .long);
+      end-short = payload-lies s shape f .0;
+    }

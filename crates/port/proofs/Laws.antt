@@ -4,21 +4,21 @@ use mathlib.Core.Path.{_≡_, sym, ap, _∙_}
 use mathlib.Core.List.{List}
 use Prim.Native.Nat.{ℕ, _≤_}
 use borrow.Author.Tests.{le-leb}
+use lib.ListN.{length}
 use lib.Dec.{eqb}
 use Rattle.header.specs.declared.Kind.{Kind}
 use Rattle.header.specs.declared.Header.{Header}
 use Rattle.writer.specs.declared.WriteAnswer.{WriteAnswer}
-use Rattle.writer.specs.Write.{WritesHeader, writeAnswer, writtenInto}
-use Rattle.port.specs.Flat.{kindOf, headerAt, PortWrites}
+use Rattle.writer.specs.Write.{writeAnswer, writtenInto}
+use Rattle.port.specs.Flat.{kindOf, headerAt, flatWritten, flatInto}
 use Rattle.port.specs.declared.FlatHeader.{FlatHeader}
 use Rattle.port.specs.declared.Known.{Known}
 use Rattle.port.specs.declared.Known.the-variants.{Is}
 
 pub port-written : (f : FlatHeader) (kind : Kind) (h : Header) (before after : List ℕ) (r : WriteAnswer) →
-    kindOf (f .kind) (f .low) (f .high) ≡ Is kind → f .«reply_present» ≤ 1 → h ≡ headerAt f kind (eqb (f .«reply_present») 1) → WritesHeader h before r after →
-    PortWrites f before (record { number = r .number; length = r .length }) after
-port-written f kind h before after r known fits is w =
-    record {
-      answer = rw (known, le-leb _ _ fits, ← is, w .answer);
-      buffer = rw (known, le-leb _ _ fits, ← is) (w .buffer);
-    }
+    kindOf (f .kind) (f .low) (f .high) ≡ Is kind → f .«reply_present» ≤ 1 → h ≡ headerAt f kind (eqb (f .«reply_present») 1) →
+    r ≡ writeAnswer h (length before) → after ≡ writtenInto h before →
+    (record { number = r .number; length = r .length } ≡ flatWritten f (length before)) × (after ≡ flatInto f before)
+unfolding flatWritten flatInto
+port-written f kind h before after r known fits is a b =
+    (rw (known, le-leb _ _ fits, ← is, a), rw (known, le-leb _ _ fits, ← is) b)

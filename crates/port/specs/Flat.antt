@@ -1,6 +1,5 @@
 -- The flat struct that crosses to C, and what each export answers in its terms.
 use Prim.Native.Nat.{ℕ, _-_}
-use mathlib.Core.Path.{_≡_}
 use mathlib.Core.Bool.{Bool, true, false, cond}
 use mathlib.Core.List.{List}
 use lib.ListN.{length}
@@ -101,6 +100,8 @@ portInto f No fits out = out
 portInto f (Is kind) false out = out
 portInto f (Is kind) true out = writtenInto (headerAt f kind (eqb (f .«reply_present») 1)) out
 
-pub record PortWrites (f : FlatHeader) (before : List ℕ) (r : FlatWritten) (after : List ℕ) : Type 0 where
-  pub answer : r ≡ portAnswer f (kindOf (f .kind) (f .low) (f .high)) (leb (f .«reply_present») 1) (length before)
-  pub buffer : after ≡ portInto f (kindOf (f .kind) (f .low) (f .high)) (leb (f .«reply_present») 1) before
+unfoldable pub flatWritten : FlatHeader → ℕ → FlatWritten
+flatWritten f room = portAnswer f (kindOf (f .kind) (f .low) (f .high)) (leb (f .«reply_present») 1) room
+
+unfoldable pub flatInto : FlatHeader → List ℕ → List ℕ
+flatInto f out = portInto f (kindOf (f .kind) (f .low) (f .high)) (leb (f .«reply_present») 1) out

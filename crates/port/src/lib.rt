@@ -12,7 +12,7 @@ use writer::WriteAnswer;
 ghost use mathlib.Core.Path.{_≡_};
 ghost use lib.ListN.{length};
 ghost use Rattle.header.specs.Frame.{readFrame, readAnswer, payloadOf};
-ghost use Rattle.port.specs.Flat.{kindNumber, lowOf, highOf, presentNumber, flatOf, flatAnswer, partOf, kindOf, headerAt, PortWrites};
+ghost use Rattle.port.specs.Flat.{kindNumber, lowOf, highOf, presentNumber, flatOf, flatAnswer, partOf, kindOf, headerAt, flatWritten, flatInto};
 
 // "bad argument": a kind or a presence that does not exist, which a flat header can name and a header cannot
 pub const BAD_ARGUMENT: u32 = 20;
@@ -210,7 +210,8 @@ fn header_at(f: FlatHeader, kind: Kind, present: bool) -> Header
 // Writes a header into a buffer.
 #[no_mangle]
 pub extern "C" fn eos_write_header(f: FlatHeader, out: &mut [u8]) -> FlatWritten
-    ensures { λ r. ⌜ PortWrites f (now (out .entry)) r (now (out .exit)) ⌝ }
+    ensures answer { λ r. ⌜ r ≡ flatWritten f (length (now (out .entry))) ⌝ }
+    ensures buffer { λ _. ⌜ now (out .exit) ≡ flatInto f (now (out .entry)) ⌝ }
 {
     let known = kind_of(f.kind, f.low, f.high);
     let Known::Is(kind) = known else {

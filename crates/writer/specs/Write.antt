@@ -1,6 +1,5 @@
 -- Writing a header (document 01, "The numbers and their order").
 use Prim.Native.Nat.{ℕ, zero, suc, _+_}
-use mathlib.Core.Path.{_≡_}
 use mathlib.Core.Bool.{Bool, true, false, cond, not, _&&_}
 use mathlib.Core.List.{List, [], _∷_, _++_}
 use lib.ListN.{length, take, drop}
@@ -51,8 +50,3 @@ writtenInto h out =
     cond (eqb (writeNumber h (length out)) 0)
     (headerBytes (contentOf h) ++ drop (length (headerBytes (contentOf h))) out)
     out
-
--- The whole contract of writing a header h into a buffer.
-pub record WritesHeader (h : Header) (before : List ℕ) (r : WriteAnswer) (after : List ℕ) : Type 0 where
-  pub answer : r ≡ writeAnswer h (length before)
-  pub buffer : after ≡ writtenInto h before

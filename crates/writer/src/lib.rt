@@ -15,7 +15,7 @@ ghost use lib.ListN.{length, take, drop};
 ghost use Rattle.wire.specs.Wire.{stored, joined, wordBytes, segmentBytes};
 ghost use Rattle.header.specs.Content.{contentOf, runs, replyOf};
 ghost use Rattle.writer.specs.Bytes.{entryBytes, chunkBytes, readListBytes, writeListBytes, replyBytes, errorBytes, fixedBytes, procedureOf, restBytes, partsOf, headerBytes};
-ghost use Rattle.writer.specs.Write.{bareIfError, total, withinLimits, writeNumber, WritesHeader};
+ghost use Rattle.writer.specs.Write.{bareIfError, total, withinLimits, writeNumber, writeAnswer, writtenInto};
 
 // "kind and lists do not fit"
 pub const KIND_AND_LISTS: u32 = 12;
@@ -316,7 +316,8 @@ fn put_header(out: &mut [u8], h: Header) -> usize
 
 // Writes a header at the front of a buffer and keeps the bytes behind it.
 pub fn write_header(h: Header, out: &mut [u8]) -> WriteAnswer
-    ensures { λ r. ⌜ WritesHeader h (now (out .entry)) r (now (out .exit)) ⌝ }
+    ensures answer { λ r. ⌜ r ≡ writeAnswer h (length (now (out .entry))) ⌝ }
+    ensures buffer { λ _. ⌜ now (out .exit) ≡ writtenInto h (now (out .entry)) ⌝ }
 {
     let number = write_number(h, out.len());
     if number != 0 {

@@ -1,3 +1,4 @@
+use Rattle.header.proofs.Lies.{Found, Bounds, bounds}
 use Rattle.lists.specs.Steps.{markedSegmentAt, zeroReads, withChunks, chunksAt}
 use Rattle.wire.specs.Wire.{zeroSegment}
 use Rattle.lists.specs.Parsed.{each}
@@ -8,7 +9,6 @@ use mathlib.Core.List.{List}
 use Rattle.header.proofs.Lies.{found, built-by, chunks-fit}
 use lib.ListN.{length-drop}
 use Rattle.wire.proofs.Laws.{part-from}
-use Rattle.header.specs.declared.Shape.{Shape}
 use denote.Ref.{now}
 use native.Mathlib.Omega.{arith}
 use mathlib.Core.Path.{_≡_, refl, sym, ap, _∙_}
@@ -23,29 +23,20 @@ use Rattle.lists.proofs.fill_segments.Reads as fill-segments-reads
 use Rattle.lists.proofs.fill_writes.Reads as fill-writes-reads
 use Rattle.wire.proofs.word_at.Reads as word-at-reads
 
+-- What the caller showed: the frame was read, and its shape keeps the bounds.
+found-at : (c : tie.Start) → Found (now (c .args .s)) (c .args .shape)
+found-at c = found _ _ (c .pre)
+
+bounds-at : (c : tie.Start) → Bounds (now (c .args .s)) (c .args .shape)
+bounds-at c = bounds _ _ (found-at c)
+
 -- src/lib.rt:239:38
 sub-fill-reads : tie.Need-sub-fill-reads
-sub-fill-reads c =
-    let s = now (c .before .args .s) in
-    let shape = c .before .args .shape in
-    let f = found s shape (c .before .pre) in
-    let n = ap (λ (x : Shape). x .reads) (f .shape-is) in
-    let m = ap (λ (x : Shape). x .chunks) (f .shape-is) in
-    let r = ap (λ (x : Shape). x .replies) (f .shape-is) in
-    let e = ap (λ (x : Shape). x .end) (f .shape-is) in
-    omega (arith, f .lies .reads-long)
+sub-fill-reads c = let b = bounds-at (c .before) in omega arith
 
 -- src/lib.rt:239:38
 part-fill-reads-start : tie.Need-part-fill-reads-start
-part-fill-reads-start c =
-    let s = now (c .before .args .s) in
-    let shape = c .before .args .shape in
-    let f = found s shape (c .before .pre) in
-    let n = ap (λ (x : Shape). x .reads) (f .shape-is) in
-    let m = ap (λ (x : Shape). x .chunks) (f .shape-is) in
-    let r = ap (λ (x : Shape). x .replies) (f .shape-is) in
-    let e = ap (λ (x : Shape). x .end) (f .shape-is) in
-    omega (arith, f .lies .reads-long)
+part-fill-reads-start c = let b = bounds-at (c .before) in omega arith
 
 -- src/lib.rt:239:38
 part-fill-reads-end : tie.Need-part-fill-reads-end
@@ -54,87 +45,32 @@ part-fill-reads-end c = search needs
 -- src/lib.rt:239:9
 fill-reads-requires : tie.Need-fill-reads-requires
 fill-reads-requires c κs =
-    let s = now (c .before .before .args .s) in
-    let shape = c .before .before .args .shape in
-    let f = found s shape (c .before .before .pre) in
-    let n = ap (λ (x : Shape). x .reads) (f .shape-is) in
-    let m = ap (λ (x : Shape). x .chunks) (f .shape-is) in
-    let r = ap (λ (x : Shape). x .replies) (f .shape-is) in
-    let e = ap (λ (x : Shape). x .end) (f .shape-is) in
-    let size = length-drop 16 s in
-    (omega (arith, f .lies .reads-few), rw part-from (omega (arith, f .lies .reads-long)))
+    let b = bounds-at (c .before .before) in
+    (b .reads-few, rw part-from (omega (arith, length-drop 16 (now (c .before .before .args .s)))))
 
 -- src/lib.rt:242:16
 cast-t20 : tie.Need-cast-t20
-cast-t20 c =
-    let s = now (c .before .before .before .args .s) in
-    let shape = c .before .before .before .args .shape in
-    let f = found s shape (c .before .before .before .pre) in
-    let n = ap (λ (x : Shape). x .reads) (f .shape-is) in
-    let m = ap (λ (x : Shape). x .chunks) (f .shape-is) in
-    let r = ap (λ (x : Shape). x .replies) (f .shape-is) in
-    let e = ap (λ (x : Shape). x .end) (f .shape-is) in
-    omega (arith, f .lies .reads-few)
+cast-t20 c = let b = bounds-at (c .before .before .before) in omega arith
 
 -- src/lib.rt:244:18
 mul-w : tie.Need-mul-w
-mul-w c =
-    let s = now (c .before .before .before .args .s) in
-    let shape = c .before .before .before .args .shape in
-    let f = found s shape (c .before .before .before .pre) in
-    let n = ap (λ (x : Shape). x .reads) (f .shape-is) in
-    let m = ap (λ (x : Shape). x .chunks) (f .shape-is) in
-    let r = ap (λ (x : Shape). x .replies) (f .shape-is) in
-    let e = ap (λ (x : Shape). x .end) (f .shape-is) in
-    omega (arith, f .lies .reads-few)
+mul-w c = let b = bounds-at (c .before .before .before) in omega arith
 
 -- src/lib.rt:244:13
 add-w : tie.Need-add-w
-add-w c =
-    let s = now (c .before .before .before .args .s) in
-    let shape = c .before .before .before .args .shape in
-    let f = found s shape (c .before .before .before .pre) in
-    let n = ap (λ (x : Shape). x .reads) (f .shape-is) in
-    let m = ap (λ (x : Shape). x .chunks) (f .shape-is) in
-    let r = ap (λ (x : Shape). x .replies) (f .shape-is) in
-    let e = ap (λ (x : Shape). x .end) (f .shape-is) in
-    omega (arith, f .lies .reads-few)
+add-w c = let b = bounds-at (c .before .before .before) in omega arith
 
 -- src/lib.rt:248:17
 cast-t20-2 : tie.Need-cast-t20-2
-cast-t20-2 c =
-    let s = now (c .before .before .before .args .s) in
-    let shape = c .before .before .before .args .shape in
-    let f = found s shape (c .before .before .before .pre) in
-    let n = ap (λ (x : Shape). x .reads) (f .shape-is) in
-    let m = ap (λ (x : Shape). x .chunks) (f .shape-is) in
-    let r = ap (λ (x : Shape). x .replies) (f .shape-is) in
-    let e = ap (λ (x : Shape). x .end) (f .shape-is) in
-    omega (arith, f .lies .writes-few)
+cast-t20-2 c = let b = bounds-at (c .before .before .before) in omega arith
 
 -- src/lib.rt:250:37
 sub-fill-writes : tie.Need-sub-fill-writes
-sub-fill-writes c =
-    let s = now (c .before .before .before .args .s) in
-    let shape = c .before .before .before .args .shape in
-    let f = found s shape (c .before .before .before .pre) in
-    let n = ap (λ (x : Shape). x .reads) (f .shape-is) in
-    let m = ap (λ (x : Shape). x .chunks) (f .shape-is) in
-    let r = ap (λ (x : Shape). x .replies) (f .shape-is) in
-    let e = ap (λ (x : Shape). x .end) (f .shape-is) in
-    omega (arith, f .lies .reads-long)
+sub-fill-writes c = let b = bounds-at (c .before .before .before) in omega arith
 
 -- src/lib.rt:250:37
 part-fill-writes-start : tie.Need-part-fill-writes-start
-part-fill-writes-start c =
-    let s = now (c .before .before .before .args .s) in
-    let shape = c .before .before .before .args .shape in
-    let f = found s shape (c .before .before .before .pre) in
-    let n = ap (λ (x : Shape). x .reads) (f .shape-is) in
-    let m = ap (λ (x : Shape). x .chunks) (f .shape-is) in
-    let r = ap (λ (x : Shape). x .replies) (f .shape-is) in
-    let e = ap (λ (x : Shape). x .end) (f .shape-is) in
-    omega (arith, f .lies .reads-long)
+part-fill-writes-start c = let b = bounds-at (c .before .before .before) in omega arith
 
 -- src/lib.rt:250:37
 part-fill-writes-end : tie.Need-part-fill-writes-end
@@ -142,101 +78,40 @@ part-fill-writes-end c = search needs
 
 -- src/lib.rt:250:9
 fill-writes-requires : tie.Need-fill-writes-requires
-fill-writes-requires c κs =
-    let s = now (c .before .before .before .before .args .s) in
-    let shape = c .before .before .before .before .args .shape in
-    let f = found s shape (c .before .before .before .before .pre) in
-    let n = ap (λ (x : Shape). x .reads) (f .shape-is) in
-    let m = ap (λ (x : Shape). x .chunks) (f .shape-is) in
-    let r = ap (λ (x : Shape). x .replies) (f .shape-is) in
-    let e = ap (λ (x : Shape). x .end) (f .shape-is) in
-    (omega (arith, f .lies .writes-few), rw part-from (chunks-fit s shape f))
+fill-writes-requires c κs = (bounds-at (c .before .before .before .before) .chunks-few, rw part-from (chunks-fit _ _ (found-at (c .before .before .before .before))))
 
 -- src/lib.rt:252:45
 mul-fill-segments : tie.Need-mul-fill-segments
-mul-fill-segments c =
-    let s = now (c .before .before .before .before .before .args .s) in
-    let shape = c .before .before .before .before .before .args .shape in
-    let f = found s shape (c .before .before .before .before .before .pre) in
-    let n = ap (λ (x : Shape). x .reads) (f .shape-is) in
-    let m = ap (λ (x : Shape). x .chunks) (f .shape-is) in
-    let r = ap (λ (x : Shape). x .replies) (f .shape-is) in
-    let e = ap (λ (x : Shape). x .end) (f .shape-is) in
-    omega (arith, f .lies .reply .few)
+mul-fill-segments c = let b = bounds-at (c .before .before .before .before .before) in omega arith
 
 -- src/lib.rt:252:39
 sub-fill-segments : tie.Need-sub-fill-segments
-sub-fill-segments c =
-    let s = now (c .before .before .before .before .before .args .s) in
-    let shape = c .before .before .before .before .before .args .shape in
-    let f = found s shape (c .before .before .before .before .before .pre) in
-    let n = ap (λ (x : Shape). x .reads) (f .shape-is) in
-    let m = ap (λ (x : Shape). x .chunks) (f .shape-is) in
-    let r = ap (λ (x : Shape). x .replies) (f .shape-is) in
-    let e = ap (λ (x : Shape). x .end) (f .shape-is) in
-    omega (arith, f .lies .reply .long)
+sub-fill-segments c = let b = bounds-at (c .before .before .before .before .before) in omega arith
 
 -- src/lib.rt:252:9
 fill-segments-requires : tie.Need-fill-segments-requires
-fill-segments-requires c κs =
-    let s = now (c .before .before .before .before .before .args .s) in
-    let shape = c .before .before .before .before .before .args .shape in
-    let f = found s shape (c .before .before .before .before .before .pre) in
-    let n = ap (λ (x : Shape). x .reads) (f .shape-is) in
-    let m = ap (λ (x : Shape). x .chunks) (f .shape-is) in
-    let r = ap (λ (x : Shape). x .replies) (f .shape-is) in
-    let e = ap (λ (x : Shape). x .end) (f .shape-is) in
-    (omega (arith, f .lies .reply .long, f .lies .reply .short), omega (arith, f .lies .reply .few))
+fill-segments-requires c κs = let b = bounds-at (c .before .before .before .before .before) in (omega arith, omega arith)
 
 -- src/lib.rt:255:16
 cast-t20-3 : tie.Need-cast-t20-3
-cast-t20-3 c =
-    let s = now (c .before .before .before .before .before .before .args .s) in
-    let shape = c .before .before .before .before .before .before .args .shape in
-    let f = found s shape (c .before .before .before .before .before .before .pre) in
-    let n = ap (λ (x : Shape). x .reads) (f .shape-is) in
-    let m = ap (λ (x : Shape). x .chunks) (f .shape-is) in
-    let r = ap (λ (x : Shape). x .replies) (f .shape-is) in
-    let e = ap (λ (x : Shape). x .end) (f .shape-is) in
-    omega (arith, f .lies .reply .few)
+cast-t20-3 c = let b = bounds-at (c .before .before .before .before .before .before) in omega arith
 
 -- src/lib.rt:263:14
 word-at-requires : tie.Need-word-at-requires
-word-at-requires c κs =
-    let s = now (c .before .before .before .before .before .before .args .s) in
-    let shape = c .before .before .before .before .before .before .args .shape in
-    let f = found s shape (c .before .before .before .before .before .before .pre) in
-    let n = ap (λ (x : Shape). x .reads) (f .shape-is) in
-    let m = ap (λ (x : Shape). x .chunks) (f .shape-is) in
-    let r = ap (λ (x : Shape). x .replies) (f .shape-is) in
-    let e = ap (λ (x : Shape). x .end) (f .shape-is) in
-    omega (arith, f .lies .reads-long)
+word-at-requires c κs = let b = bounds-at (c .before .before .before .before .before .before) in omega arith
 
 -- src/lib.rt:264:17
 word-at-requires-2 : tie.Need-word-at-requires-2
-word-at-requires-2 c κs =
-    let s = now (c .before .before .before .before .before .before .before .args .s) in
-    let shape = c .before .before .before .before .before .before .before .args .shape in
-    let f = found s shape (c .before .before .before .before .before .before .before .pre) in
-    let n = ap (λ (x : Shape). x .reads) (f .shape-is) in
-    let m = ap (λ (x : Shape). x .chunks) (f .shape-is) in
-    let r = ap (λ (x : Shape). x .replies) (f .shape-is) in
-    let e = ap (λ (x : Shape). x .end) (f .shape-is) in
-    omega (arith, f .lies .reads-long)
+word-at-requires-2 c κs = let b = bounds-at (c .before .before .before .before .before .before .before) in omega arith
 
 -- src/lib.rt:226:1
 returns : tie.Need-returns
 returns c =
     let s = now (c .before .before .before .before .before .before .before .before .args .s) in
     let shape = c .before .before .before .before .before .before .before .before .args .shape in
-    let f = found s shape (c .before .before .before .before .before .before .before .before .pre) in
-    let n = ap (λ (x : Shape). x .reads) (f .shape-is) in
-    let m = ap (λ (x : Shape). x .chunks) (f .shape-is) in
-    let r = ap (λ (x : Shape). x .replies) (f .shape-is) in
-    let e = ap (λ (x : Shape). x .end) (f .shape-is) in
     let reads = c .before .before .before .before .before .fill-reads .ensures ∙ ap (λ (u : List ℕ). stored zeroReads 0 (each 24 markedSegmentAt (shape .reads) u)) (part-from 16 s) in
     let writes = c .before .before .before .fill-writes .ensures ∙ ap (λ (u : List ℕ). withChunks 0 0 (record { segments = replicate 16 zeroSegment; counts = replicate 4 0; chunks = shape .chunks }) (chunksAt (shape .chunks) u)) (part-from (20 + shape .reads * 24) s) in
-    built-by s shape f (c .before .before .before .before .before .fill-reads .result) (c .before .before .before .fill-writes .result) (c .before .before .fill-segments .result) (c .before .word-at .result) (c .word-at2 .result) reads writes (c .before .before .fill-segments .ensures) (c .before .word-at .ensures) (c .word-at2 .ensures)
+    built-by s shape (found-at (c .before .before .before .before .before .before .before .before)) (c .before .before .before .before .before .fill-reads .result) (c .before .before .before .fill-writes .result) (c .before .before .fill-segments .result) (c .before .word-at .result) (c .word-at2 .result) reads writes (c .before .before .fill-segments .ensures) (c .before .word-at .ensures) (c .word-at2 .ensures)
 
 pub fill-header-spec : {M : Type 1} → statement M
 fill-header-spec =

@@ -1,5 +1,5 @@
+use Rattle.header.proofs.Lies.{bounds}
 use Rattle.header.proofs.Lies.{found, unfound, bare-read, answer-is}
-use Rattle.header.specs.declared.Shape.{Shape}
 use denote.Ref.{now}
 use native.Mathlib.Omega.{arith}
 use mathlib.Core.Path.{_≡_, refl, sym, ap, _∙_}
@@ -43,33 +43,19 @@ returns c =
 
 -- src/lib.rt:293:8
 add-if1 : tie.Need-add-if1
-add-if1 c =
-    let f = found (now (c .before .before .before .before .before .args .s)) (c .before .walk .given .0 .0) (sym (c .before .before .before .walk-frame .ensures) ∙ c .before .walk .given .1) in
-    let n = ap (λ (x : Shape). x .reads) (f .shape-is) in
-    let m = ap (λ (x : Shape). x .chunks) (f .shape-is) in
-    let r = ap (λ (x : Shape). x .replies) (f .shape-is) in
-    omega (arith, f .lies .reads-few, f .lies .writes-few)
+add-if1 c = let b = bounds _ _ (found (now (c .before .before .before .before .before .args .s)) (c .before .walk .given .0 .0) (sym (c .before .before .before .walk-frame .ensures) ∙ c .before .walk .given .1)) in omega arith
 
 -- src/lib.rt:293:8
 add-if1-2 : tie.Need-add-if1-2
-add-if1-2 c =
-    let f = found (now (c .before .before .before .before .before .args .s)) (c .before .walk .given .0 .0) (sym (c .before .before .before .walk-frame .ensures) ∙ c .before .walk .given .1) in
-    let n = ap (λ (x : Shape). x .reads) (f .shape-is) in
-    let m = ap (λ (x : Shape). x .chunks) (f .shape-is) in
-    let r = ap (λ (x : Shape). x .replies) (f .shape-is) in
-    omega (arith, f .lies .reads-few, f .lies .writes-few, f .lies .reply .few)
+add-if1-2 c = let b = bounds _ _ (found (now (c .before .before .before .before .before .args .s)) (c .before .walk .given .0 .0) (sym (c .before .before .before .walk-frame .ensures) ∙ c .before .walk .given .1)) in omega arith
 
 -- src/lib.rt:295:32
 word-at-requires : tie.Need-word-at-requires
-word-at-requires c κs =
-    let f = found (now (c .before .before .before .before .before .before .args .s)) (c .before .before .walk .given .0 .0) (sym (c .before .before .before .before .walk-frame .ensures) ∙ c .before .before .walk .given .1) in
-    omega (arith, f .lies .reads-long)
+word-at-requires c κs = let b = bounds _ _ (found (now (c .before .before .before .before .before .before .args .s)) (c .before .before .walk .given .0 .0) (sym (c .before .before .before .before .walk-frame .ensures) ∙ c .before .before .walk .given .1)) in omega arith
 
 -- src/lib.rt:295:53
 word-at-requires-2 : tie.Need-word-at-requires-2
-word-at-requires-2 c κs =
-    let f = found (now (c .before .before .before .before .before .before .before .args .s)) (c .before .before .before .walk .given .0 .0) (sym (c .before .before .before .before .before .walk-frame .ensures) ∙ c .before .before .before .walk .given .1) in
-    omega (arith, f .lies .reads-long)
+word-at-requires-2 c κs = let b = bounds _ _ (found (now (c .before .before .before .before .before .before .before .args .s)) (c .before .before .before .walk .given .0 .0) (sym (c .before .before .before .before .before .walk-frame .ensures) ∙ c .before .before .before .walk .given .1)) in omega arith
 
 -- src/lib.rt:295:21
 bare-requires-2 : tie.Need-bare-requires-2

@@ -1,3 +1,4 @@
+use Rattle.port.specs.Flat.{flatWritten, flatInto}
 use Rattle.port.proofs.Laws.{port-written}
 use mathlib.Core.Path.{_≡_, refl, sym, ap, _∙_}
 use borrow.Author.Tests.{le-leb, lt-leb}
@@ -24,11 +25,13 @@ enum-told c = search needs
 
 -- src/lib.rt:214:9
 returns : tie.Need-returns
-returns c = record { answer = rw (← (c .before .before .kind-of .ensures), c .enum-told .given .1); buffer = rw (← (c .before .before .kind-of .ensures), c .enum-told .given .1) }
+unfolding flatWritten flatInto
+returns c = (rw (← (c .before .before .kind-of .ensures), c .enum-told .given .1), rw (← (c .before .before .kind-of .ensures), c .enum-told .given .1))
 
 -- src/lib.rt:220:9
 returns-2 : tie.Need-returns-2
-returns-2 c = record { answer = rw (← (c .before .before .before .before .before .kind-of .ensures), c .before .before .before .known .given .1, lt-leb _ _ (c .if1 .taken)); buffer = rw (← (c .before .before .before .before .before .kind-of .ensures), c .before .before .before .known .given .1, lt-leb _ _ (c .if1 .taken)) }
+unfolding flatWritten flatInto
+returns-2 c = (rw (← (c .before .before .before .before .before .kind-of .ensures), c .before .before .before .known .given .1, lt-leb _ _ (c .if1 .taken)), rw (← (c .before .before .before .before .before .kind-of .ensures), c .before .before .before .known .given .1, lt-leb _ _ (c .if1 .taken)))
 
 -- src/lib.rt:225:9
 header-at-requires : tie.Need-header-at-requires
@@ -44,7 +47,7 @@ same-length c = search needs
 
 -- src/lib.rt:208:1
 returns-3 : tie.Need-returns-3
-returns-3 c = port-written (c .before .before .before .before .before .before .before .before .before .before .before .before .before .args .f) _ _ _ _ (c .before .before .write-header .result) (sym (c .before .before .before .before .before .before .before .before .before .before .before .kind-of .ensures) ∙ c .before .before .before .before .before .before .before .before .before .known .given .1) (c .before .before .before .before .before .before .if1 .left) (c .before .before .before .before .header-at .ensures) (c .before .before .write-header .ensures)
+returns-3 c = port-written (c .before .before .before .before .before .before .before .before .before .before .before .before .before .args .f) _ _ _ _ (c .before .before .write-header .result) (sym (c .before .before .before .before .before .before .before .before .before .before .before .kind-of .ensures) ∙ c .before .before .before .before .before .before .before .before .before .known .given .1) (c .before .before .before .before .before .before .if1 .left) (c .before .before .before .before .header-at .ensures) (c .before .before .write-header .ensures .0) (c .before .before .write-header .ensures .1)
 
 pub eos-write-header-spec : {M : Type 1} → statement M
 eos-write-header-spec =

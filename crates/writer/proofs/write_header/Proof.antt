@@ -13,7 +13,7 @@ write-number-requires c κs = search needs
 -- src/lib.rt:323:9
 returns : tie.Need-returns
 unfolding writeAnswer writtenInto
-returns c = record { answer = rw (← (c .before .write-number .ensures), ne-eqb _ _ (c .if1 .taken)); buffer = rw (← (c .before .write-number .ensures), ne-eqb _ _ (c .if1 .taken)) }
+returns c = (rw (← (c .before .write-number .ensures), ne-eqb _ _ (c .if1 .taken)), rw (← (c .before .write-number .ensures), ne-eqb _ _ (c .if1 .taken)))
 
 -- src/lib.rt:325:9
 put-header-requires : tie.Need-put-header-requires
@@ -29,10 +29,7 @@ unfolding writeAnswer writtenInto
 returns-2 c =
     let zero = sym (c .before .before .before .before .before .write-number .ensures) ∙ c .before .before .before .before .if1 .left in
     let fits = accepted (c .before .before .before .before .before .before .before .args .h) _ zero .1 in
-    record {
-      answer = rw (zero, c .before .before .put-header .ensures .0);
-      buffer = rw zero (c .before .before .put-header .ensures .1 ∙ stored-front _ _ fits);
-    }
+    (rw (zero, c .before .before .put-header .ensures .0), rw zero (c .before .before .put-header .ensures .1 ∙ stored-front _ _ fits))
 
 pub write-header-spec : {M : Type 1} → statement M
 write-header-spec =
