@@ -116,7 +116,7 @@ pub zeroed-same : (h : Header) → Within h → headerOf (contentOf h) ≡ zeroe
 unfolding headerOf contentOf zeroed
 zeroed-same h w = λ i. record {
   reads = record {
-    segments = padded 16 (zeroReadSegment) (take (h .reads .count) (h .reads .segments));
+    segments = padded 16 zeroReadSegment (take (h .reads .count) (h .reads .segments));
     count = length-take-le (h .reads .count) (h .reads .segments) (w .reads) i;
   };
   writes = record {

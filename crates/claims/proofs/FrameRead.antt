@@ -12,9 +12,9 @@ use lib.Seq.{drop-drop}
 use lib.Dec.{leb, eqb}
 use Rattle.wire.specs.Wire.{wordAt, wordOf, wordBytes}
 use Rattle.lists.specs.Parsed.{Parsed, refused, done, require}
-use Rattle.lists.specs.Lists.{readList, positionsNumber, writeList, replyChunk}
+use Rattle.lists.specs.Lists.{afterWord, readList, positionsNumber, writeList, replyChunk}
 use Rattle.header.specs.Content.{Content}
-use Rattle.header.specs.Frame.{threeParts, errorBody, errorContent, afterWord, nothingBehind, byProcedure, readFrame}
+use Rattle.header.specs.Frame.{threeParts, errorBody, errorContent, nothingBehind, byProcedure, readFrame}
 use Rattle.writer.specs.Bytes.{readListBytes, writeListBytes, replyBytes, errorBytes, procedureOf, restBytes, fixedBytes, headerBytes}
 use Rattle.claims.specs.RoundTrip.{AllBytes, Word32, All, ErrorFits, KindFits}
 use Rattle.writer.specs.Write.{total}

@@ -12,7 +12,7 @@ use lib.Seq.{drop-drop, drop-append-seam}
 use lib.Dec.{leb, eqb}
 use Rattle.wire.specs.Wire.{wordAt, wordOf, segmentAt, readSegmentAt, wordBytes, segmentBytes, readSegmentBytes, joined}
 use Rattle.lists.specs.Parsed.{Parsed, refused, done, andThen, require, prepend, each}
-use Rattle.lists.specs.Lists.{markerWord, markerOf, afterMarker, optional, readEntry, readList, positionsNumber, segments, afterCount, counted, writeList, replyChunk}
+use Rattle.lists.specs.Lists.{markerWord, markerOf, afterMarker, optional, readEntry, readList, positionsNumber, segments, afterWord, counted, writeList, replyChunk}
 use Rattle.writer.specs.Bytes.{countedBytes, chunkBytes, readListBytes, writeListBytes, replyBytes}
 use Rattle.writer.specs.Write.{total}
 use Rattle.claims.specs.RoundTrip.{AllBytes, Word32, All, SegmentFits, ReadSegmentFits}
@@ -174,7 +174,7 @@ counted-done : (left : ℕ) (s : List ℕ) (c : List Segment) (t : List ℕ) →
 unfolding counted segments countedBytes
 counted-done left s c t b e = go (wordOf s) refl e
   where
-    go : (w : Word) → wordOf s ≡ w → afterCount w left (drop 4 s) ≡ done c t → CountedRead left s c t
+    go : (w : Word) → wordOf s ≡ w → afterWord w (λ n. require (leb n left) 7 (segments n (drop 4 s))) ≡ done c t → CountedRead left s c t
     go (word.Refused n) p q = absurd (never q)
     go (word.Value n) p q =
         let u = drop 4 s in

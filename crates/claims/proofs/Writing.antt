@@ -27,6 +27,7 @@ use Rattle.claims.proofs.Allowed.{ReplyAllowed, Allowed, BareIfError}
 use Rattle.claims.proofs.Words.{length-word, length-read-segment}
 use Rattle.claims.proofs.ReadBack.{check-passed, read-entry-first, chunk-first, length-segments}
 use Rattle.claims.proofs.Contents.{all-take, all-runs, lengths-runs, contentOf-headerOf, counts-held, Within, chunks-same}
+use Rattle.writer.proofs.Laws.{both-hold, positions-zero}
 
 -- What every check asks of a header that is written into `room` bytes.
 pub record Passed (h : Header) (room : ℕ) : Type 0 where
@@ -39,20 +40,6 @@ pub record Passed (h : Header) (room : ℕ) : Type 0 where
   pub short : length (headerBytes (contentOf h)) ≤ 1024
   pub fits : length (headerBytes (contentOf h)) ≤ room
 
--- The checks behind the positions gave 0 too.
-positions-passed : (last : ℕ) (l : List ReadSegment) (next : ℕ) → positionsNumber last l next ≡ 0 → next ≡ 0
-unfolding positionsNumber
-positions-passed last [] next e = e
-positions-passed last (x ∷ l) next e =
-    let a : (eqb (x .position % 4) 0 ≡ true) × (check (leb last (x .position)) 8 (positionsNumber (x .position) l next) ≡ 0) = check-passed _ 8 _ e in
-    let b : (leb last (x .position) ≡ true) × (positionsNumber (x .position) l next ≡ 0) = check-passed _ 7 _ (a .1) in
-    positions-passed (x .position) l next (b .1)
-
--- Both of two tests that hold together.
-both-hold : (a b : Bool) → (a && b) ≡ true → (a ≡ true) × (b ≡ true)
-both-hold true b e = (refl, e)
-both-hold false b e = absurd (let z : _≡_ {A = ℕ} 0 1 = cc in omega arith)
-
 -- The number 0 says that every check passed.
 pub write-passed : (h : Header) (room : ℕ) → writeNumber h room ≡ 0 → Passed h room
 unfolding writeNumber withinLimits
@@ -62,7 +49,7 @@ write-passed h room e =
     let b = both-hold (leb (h .reads .count) 16) _ (k .0) in
     let c = both-hold (leb (h .writes .chunks) 4) _ (b .1) in
     let d = both-hold (leb (total (take (h .writes .chunks) (h .writes .counts))) 16) _ (c .1) in
-    let next = positions-passed 0 (contentOf h .reads) _ (k .1) in
+    let next = positions-zero 0 (contentOf h .reads) _ (k .1) in
     let g = check-passed (leb (length (headerBytes (contentOf h))) 1024) 20 _ next in
     let i = check-passed (leb (length (headerBytes (contentOf h))) room) 15 _ (g .1) in
     record {
@@ -139,19 +126,14 @@ passed-within h room r p =
     most true le = le
     most false le = omega arith
 
--- Two tests that pass together pass each.
-and-true : (p q : Bool) → p && q ≡ true → (p ≡ true) × (q ≡ true)
-and-true true q e = (refl, e)
-and-true false q e = absurd (let z : _≡_ {A = ℕ} 0 1 = cc in omega arith)
-
 -- An ERROR header that passed holds no lists.
 bare-error : (kind : Kind) (h : Header) → bareIfError kind (h .reads .count) (h .writes .chunks) (h .reply .present) ≡ true → BareIfError kind (contentOf h)
 unfolding contentOf runs
 bare-error Msg h e = tt
 bare-error Nomsg h e = tt
 bare-error (Error k) h e =
-    let a = and-true (eqb (h .reads .count) 0) _ e in
-    let b = and-true (eqb (h .writes .chunks) 0) _ (a .1) in
+    let a = both-hold (eqb (h .reads .count) 0) _ e in
+    let b = both-hold (eqb (h .writes .chunks) 0) _ (a .1) in
     let r : h .reads .count ≡ 0 = eqb-true _ _ (a .0) in
     let w : h .writes .chunks ≡ 0 = eqb-true _ _ (b .0) in
     let p : h .reply .present ≡ false = not-true _ (b .1) in

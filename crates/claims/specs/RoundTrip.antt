@@ -77,7 +77,7 @@ zeroedReply true count segments = record { segments = padded 16 zeroSegment (tak
 unfoldable pub zeroed : Header → Header
 zeroed h = record {
   reads = record {
-    segments = padded 16 (zeroReadSegment) (take (h .reads .count) (h .reads .segments));
+    segments = padded 16 zeroReadSegment (take (h .reads .count) (h .reads .segments));
     count = h .reads .count;
   };
   writes = record {

@@ -17,7 +17,7 @@ use Rattle.wire.specs.declared.Word.the-variants as word
 use Rattle.wire.specs.declared.Segment.{Segment}
 use Rattle.wire.specs.declared.ReadSegment.{ReadSegment}
 use Rattle.lists.specs.Parsed.{Parsed, refused, done, andThen, require, each}
-use Rattle.lists.specs.Lists.{markerOf, readList, writeList, counted, replyChunk}
+use Rattle.lists.specs.Lists.{afterWord, markerOf, readList, writeList, counted, replyChunk}
 use Rattle.lists.specs.Steps.{markedSegmentAt, chunksAt, ChunksFit, withChunks, zeroReads}
 use Rattle.wire.specs.Wire.{zeroSegment, zeroReadSegment}
 use Rattle.lists.specs.declared.WriteList.{WriteList}
@@ -25,7 +25,7 @@ use Rattle.lists.proofs.Laws.{never, required, both, word-room, Chunk, chunk-of
 use Rattle.lists.proofs.Laws as laws
 use Rattle.lists.proofs.Found.{reads-of, writes-of, reply-refused, reply-absent, reply-chunk, ReadsAre, WritesAre}
 use Rattle.header.specs.Content.{Content, padded, readListOf, writeListOf, replyChunkOf, headerOf}
-use Rattle.header.specs.Frame.{threeParts, errorContent, afterWord, errorBody, nothingBehind, byProcedure, readFrame, readAnswer, payloadOf}
+use Rattle.header.specs.Frame.{threeParts, errorContent, errorBody, nothingBehind, byProcedure, readFrame, readAnswer, payloadOf}
 use Rattle.header.specs.Shape.{isPresent, replies, shapeOf, frameWalk, emptyReply, bareContent}
 use Rattle.header.specs.declared.Kind.{Kind}
 use Rattle.header.specs.declared.Kind.the-variants.{Msg, Nomsg}
@@ -350,7 +350,7 @@ built s shape f = rw (f .read, f .shape-is)
 
     reads : record { segments = stored zeroReads 0 (each 24 markedSegmentAt (length (c .reads)) (drop 16 s)); count = length (c .reads) } ≡ readListOf (c .reads)
     reads =
-        let p = ap (stored zeroReads 0) (sym (l .reads-are)) ∙ stored-padded 16 (zeroReadSegment) (c .reads) (l .reads-few) in
+        let p = ap (stored zeroReads 0) (sym (l .reads-are)) ∙ stored-padded 16 zeroReadSegment (c .reads) (l .reads-few) in
         λ i. record { segments = p i; count = length (c .reads) }
 
     writes : withChunks 0 0 (record { segments = replicate 16 zeroSegment; counts = replicate 4 0; chunks = length (c .writes) }) (chunksAt (length (c .writes)) (drop (20 + length (c .reads) * 24) s)) ≡ writeListOf (c .writes)

@@ -16,7 +16,7 @@ use Rattle.wire.specs.declared.Segment.{Segment}
 use Rattle.wire.specs.declared.ReadSegment.{ReadSegment}
 use Rattle.wire.proofs.Laws.{part-from, word-drop}
 use Rattle.lists.specs.Parsed.{Parsed, refused, done, andThen, require, each}
-use Rattle.lists.specs.Lists.{readList, writeList, replyChunk}
+use Rattle.lists.specs.Lists.{afterWord, readList, writeList, replyChunk}
 use Rattle.lists.specs.Steps.{chunkStep, listWalk}
 use Rattle.lists.specs.declared.ListWalk.{ListWalk}
 use Rattle.lists.specs.declared.ListWalk.the-variants as list
@@ -24,7 +24,7 @@ use Rattle.lists.specs.declared.ChunkStep.{ChunkStep}
 use Rattle.lists.specs.declared.ChunkStep.the-variants as chunk
 use Rattle.lists.proofs.Found.{Checked, checked, unchecked, ReadsAre, reads-of, WritesAre, writes-of, reply-refused, reply-absent, ReplyIs, reply-present}
 use Rattle.header.specs.Content.{Content}
-use Rattle.header.specs.Frame.{threeParts, errorContent, afterWord, errorBody, nothingBehind, byProcedure, readFrame}
+use Rattle.header.specs.Frame.{threeParts, errorContent, errorBody, nothingBehind, byProcedure, readFrame}
 use Rattle.header.specs.Shape.{isPresent, replies, shapeOf, errorShape, frameWalk, endedWalk}
 use Rattle.header.specs.declared.Kind.{Kind}
 use Rattle.header.specs.declared.Kind.the-variants.{Msg, Nomsg, Error}

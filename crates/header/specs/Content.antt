@@ -30,7 +30,7 @@ abbrev pub padded : {A : Type 0} → ℕ → A → List A → List A
 padded n empty l = l ++ replicate (n - length l) empty
 
 abbrev pub readListOf : List ReadSegment → ReadList
-readListOf l = record { segments = padded 16 (zeroReadSegment) l; count = length l }
+readListOf l = record { segments = padded mostReads zeroReadSegment l; count = length l }
 
 abbrev pub writeListOf : List (List Segment) → WriteList
 writeListOf cs =

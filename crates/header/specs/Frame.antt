@@ -6,10 +6,8 @@ use mathlib.Core.Option.{Option, none, some}
 use lib.ListN.{length, drop}
 use lib.Dec.{leb, eqb}
 use Rattle.wire.specs.Wire.{wordAt, wordOf}
-use Rattle.wire.specs.declared.Word.{Word}
-use Rattle.wire.specs.declared.Word.the-variants as word
 use Rattle.lists.specs.Parsed.{Parsed, refused, done, andThen, require}
-use Rattle.lists.specs.Lists.{mostReads, mostChunks, mostWrites, readList, writeList, replyChunk}
+use Rattle.lists.specs.Lists.{afterWord, mostReads, mostChunks, mostWrites, readList, writeList, replyChunk}
 use Rattle.header.specs.Content.{Content, headerOf, nothing}
 use Rattle.header.specs.declared.Kind.{Kind}
 use Rattle.header.specs.declared.Kind.the-variants.{Msg, Nomsg, Error}
@@ -26,11 +24,6 @@ threeParts kind xid credit s =
 -- An ERROR header has no lists.
 abbrev pub errorContent : ErrorKind → ℕ → ℕ → Content
 errorContent e xid credit = record { kind = Error e; xid = xid; credit = credit; reads = []; writes = []; reply = none }
-
--- A word, and then what it decides; 5 where it is not there.
-abbrev pub afterWord : {A : Type 0} → Word → (ℕ → Parsed A) → Parsed A
-afterWord (word.Refused n) next = refused n
-afterWord (word.Value x) next = next x
 
 -- "ERROR goes on with a code word: 1 (version) and then low and high, or 2 (chunk) and no more." "code word (5), 10, low and high (5)"
 unfoldable pub errorBody : ℕ → ℕ → List ℕ → Parsed Content

@@ -16,7 +16,7 @@ use Rattle.wire.specs.declared.Word.the-variants as word
 use Rattle.wire.specs.declared.Segment.{Segment}
 use Rattle.wire.specs.declared.ReadSegment.{ReadSegment}
 use Rattle.lists.specs.Parsed.{Parsed, refused, done, andThen, require, prepend, each}
-use Rattle.lists.specs.Lists.{markerWord, markerOf, afterMarker, optional, readEntry, readList, segments, afterCount, counted, writeList, replyChunk}
+use Rattle.lists.specs.Lists.{markerWord, markerOf, afterMarker, optional, readEntry, readList, segments, afterWord, counted, writeList, replyChunk}
 use Rattle.lists.specs.Steps.{entryStep, readMarked, readStep, countStep, chunkMarked, chunkStep, listWalk, packedWalk, chunksAt, ChunksFit, withChunks}
 use Rattle.lists.specs.declared.Marker.{Marker}
 use Rattle.lists.specs.declared.Marker.the-variants as marker
@@ -166,7 +166,7 @@ pub counted-of : (left : ℕ) (s : List ℕ) (c : List Segment) (u : List ℕ) �
 unfolding counted segments
 counted-of left s c u e = go (wordOf s) refl e
   where
-    go : (w : Word) → wordOf s ≡ w → afterCount w left (drop 4 s) ≡ done c u → Counted left s c u
+    go : (w : Word) → wordOf s ≡ w → afterWord w (λ n. require (leb n left) 7 (segments n (drop 4 s))) ≡ done c u → Counted left s c u
     go (word.Refused n) h q = absurd (never q)
     go (word.Value n) h q =
         let four = word-room s n h in

@@ -27,6 +27,11 @@ mostWrites = 16
 abbrev pub mostReplies : ℕ
 mostReplies = 16
 
+-- What a word decides; 5 where it is not there.
+abbrev pub afterWord : {A : Type 0} → Word → (ℕ → Parsed A) → Parsed A
+afterWord (word.Refused n) next = refused n
+afterWord (word.Value x) next = next x
+
 -- "a marker word 1, an entry ..; a marker word 0 ends it", and "a marker word above 1": 6.
 abbrev pub markerWord : Word → Marker
 markerWord (word.Refused n) = marker.Refused n
@@ -69,12 +74,8 @@ unfoldable pub segments : ℕ → List ℕ → Parsed (List Segment)
 segments n s = require (leb (n * 16) (length s)) 5 (done (each 16 (λ t. segmentAt t 0) n s) (drop (n * 16) s))
 
 -- "count word (5), total of counts (7), segments (5)", where `left` segments may still come.
-abbrev pub afterCount : Word → ℕ → List ℕ → Parsed (List Segment)
-afterCount (word.Refused n) left t = refused n
-afterCount (word.Value n) left t = require (leb n left) 7 (segments n t)
-
 unfoldable pub counted : ℕ → List ℕ → Parsed (List Segment)
-counted left s = afterCount (wordOf s) left (drop 4 s)
+counted left s = afterWord (wordOf s) (λ n. require (leb n left) 7 (segments n (drop 4 s)))
 
 -- "For a write entry: marker (5, 6), chunk limit (7), count word (5), total of counts (7), segments (5).": at most `room` chunks, `left` segments.
 unfoldable pub writeList : ℕ → ℕ → List ℕ → Parsed (List (List Segment))

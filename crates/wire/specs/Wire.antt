@@ -22,7 +22,7 @@ wordAt s k = joinBytes (getD s k 0) (getD s (k + 1) 0) (getD s (k + 2) 0) (getD 
 unfoldable pub wordOf : List ℕ → Word
 wordOf s = cond (leb 4 (length s)) (Value (wordAt s 0)) (Refused 5)
 
--- The number that a refusal hands out.
+-- The number that a refusal hands out. (Cited by internal contracts only.)
 abbrev pub refusalOf : Word → ℕ
 refusalOf (Refused n) = n
 refusalOf (Value x) = 0
@@ -43,7 +43,7 @@ zeroSegment = record { handle = 0; length = 0; offset = 0 }
 abbrev pub zeroReadSegment : ReadSegment
 zeroReadSegment = record { position = 0; target = zeroSegment }
 
--- A buffer or an array l with the elements v from place k on. (`sets` stores them one by one; no place behind l is written.)
+-- A buffer or an array l with the elements v from place k on. (`sets` stores them one by one; no place behind l is written. Cited by internal contracts only.)
 unfoldable pub stored : {A : Type 0} → List A → ℕ → List A → List A
 stored l k v = sets l k v
 

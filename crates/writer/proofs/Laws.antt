@@ -203,9 +203,9 @@ pub record Passed (reads : ReadList) (writes : WriteList) (reply : ReplyChunk) :
   pub reply-bytes : length (replyBytes (replyOf (reply .present) (take (reply .count) (reply .segments)))) ≡ cond (reply .present) (8 + reply .count * 16) 4
 
 -- Both of two conditions.
-both : (a b : Bool) → (a && b) ≡ true → (a ≡ true) × (b ≡ true)
-both true b h = (refl, h)
-both false b h = absurd (let z : _≡_ {A = ℕ} 0 1 = cc in omega arith)
+pub both-hold : (a b : Bool) → (a && b) ≡ true → (a ≡ true) × (b ≡ true)
+both-hold true b h = (refl, h)
+both-hold false b h = absurd (let z : _≡_ {A = ℕ} 0 1 = cc in omega arith)
 
 -- The replies are few, be there a chunk or not.
 few-in : (present : Bool) (n : ℕ) → n ≤ cond present 16 0 → n ≤ 16
@@ -216,9 +216,9 @@ few-in false n h = omega arith
 pub passed : (reads : ReadList) (writes : WriteList) (reply : ReplyChunk) (rs ws ps : List Val) → shadow (read-list.the-field .row .own (read-list.the-type .to reads) rs) → shadow (write-list.the-field .row .own (write-list.the-type .to writes) ws) → shadow (reply-chunk.the-field .row .own (reply-chunk.the-type .to reply) ps) → withinLimits (reads .count) (writes .chunks) (writes .counts) (reply .present) (reply .count) ≡ true → Passed reads writes reply
 unfolding withinLimits
 passed reads writes reply rs ws ps r w p h =
-    let a = both (leb (reads .count) 16) _ h in
-    let b = both (leb (writes .chunks) 4) _ (a .1) in
-    let d = both (leb (total (take (writes .chunks) (writes .counts))) 16) _ (b .1) in
+    let a = both-hold (leb (reads .count) 16) _ h in
+    let b = both-hold (leb (writes .chunks) 4) _ (a .1) in
+    let d = both-hold (leb (total (take (writes .chunks) (writes .counts))) 16) _ (b .1) in
     let i : reads .count ≤ 16 = leb-true _ _ (a .0) in
     let j : writes .chunks ≤ 4 = leb-true _ _ (b .0) in
     let k : total (take (writes .chunks) (writes .counts)) ≤ 16 = leb-true _ _ (d .0) in
@@ -264,7 +264,7 @@ check-zero true n next p h = (refl, h)
 check-zero false n next p h = absurd (omega arith)
 
 -- Positions that give 0 were in order.
-positions-zero : (last : ℕ) (l : List ReadSegment) (next : ℕ) → positionsNumber last l next ≡ 0 → next ≡ 0
+pub positions-zero : (last : ℕ) (l : List ReadSegment) (next : ℕ) → positionsNumber last l next ≡ 0 → next ≡ 0
 unfolding positionsNumber
 positions-zero last [] next h = h
 positions-zero last (x ∷ xs) next h =

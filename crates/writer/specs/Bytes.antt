@@ -54,7 +54,7 @@ errorBytes Chunk = wordBytes 2
 abbrev pub partsBytes : List ReadSegment → List (List Segment) → Option (List Segment) → List ℕ
 partsBytes reads writes reply = readListBytes reads ++ (writeListBytes writes ++ replyBytes reply)
 
--- The same of the structs that hold them.
+-- The same of the structs that hold them. (Cited by internal contracts only.)
 abbrev pub partsOf : ReadList → WriteList → ReplyChunk → List ℕ
 partsOf reads writes reply =
     partsBytes (take (reads .count) (reads .segments)) (runs (take (writes .chunks) (writes .counts)) (writes .segments))

@@ -64,7 +64,7 @@ loop-again : tie.Need-loop-again Inv-loop μ-loop
 loop-again c =
     let k = c .before .before .loop .k in
     let below : k < length (each 24 markedSegmentAt (c .before .before .before .before .args .n) (now (c .before .before .before .before .args .s))) = rw length-each (search needs) in
-    let item : readSegmentAt (now (c .before .before .before .before .args .s)) (k * 24 + 4) ≡ getD (each 24 markedSegmentAt (c .before .before .before .before .args .n) (now (c .before .before .before .before .args .s))) k (zeroReadSegment) =
+    let item : readSegmentAt (now (c .before .before .before .before .args .s)) (k * 24 + 4) ≡ getD (each 24 markedSegmentAt (c .before .before .before .before .args .n) (now (c .before .before .before .before .args .s))) k zeroReadSegment =
     sym (item-at 24 markedSegmentAt (c .before .before .before .before .args .n) (now (c .before .before .before .before .args .s)) k _ (c .before .loop-test .taken) ∙ read-segment-drop (k * 24) 4 _) in
     let stored-there = fill-next zeroReads (each 24 markedSegmentAt (c .before .before .before .before .args .n) (now (c .before .before .before .before .args .s))) (c .before .before .loop .to) 0 k (c .before .before .loop .inv .1) (c .read-segment-at .result) _ below (c .read-segment-at .ensures ∙ item) in
     (search needs, rw zero-add at stored-there)
