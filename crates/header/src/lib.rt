@@ -31,6 +31,31 @@ pub const BYTES_BEHIND: u32 = 11;
 // "Fixed words: xid, version (1), credit, procedure."
 pub const FIXED_BYTES: usize = 16;
 
+pub const XID_AT: usize = 0;
+
+pub const VERSION_AT: usize = 4;
+
+pub const CREDIT_AT: usize = 8;
+
+pub const PROCEDURE_AT: usize = 12;
+
+pub const VERSION: u32 = 1;
+// The fixed words and the marker that ends a read list.
+pub const EMPTY_READS_BYTES: usize = 20;
+
+// "1 (version) and then low and high, or 2 (chunk) and no more"
+pub const CODE_VERSION: u32 = 1;
+
+pub const CODE_CHUNK: u32 = 2;
+
+const LOW_AT: usize = 20;
+
+const HIGH_AT: usize = 24;
+
+const VERSION_ERROR_BYTES: usize = 28;
+
+const CHUNK_ERROR_BYTES: usize = 20;
+
 // "Version(low, high) or Chunk"
 pub enum ErrorKind {
     Version(u32, u32),
@@ -88,7 +113,7 @@ fn walk_lists(s: &[u8], kind: Kind) -> FrameWalk
     requires { ⌜ 16 ≤ length (now s) ⌝ }
     ensures { λ r. ⌜ r ≡ frameWalk (length (now (s .entry))) (threeParts kind (wordAt (now (s .entry)) 0) (wordAt (now (s .entry)) 8) (drop 16 (now (s .entry)))) ⌝ }
 {
-    let reads = lists::walk_reads(&s[16..]);
+    let reads = lists::walk_reads(&s[FIXED_BYTES..]);
     let ListWalk::Done(n, behind_reads) = reads else {
         return FrameWalk::Refused(list_refusal(reads));
     };
@@ -107,7 +132,7 @@ fn walk_lists(s: &[u8], kind: Kind) -> FrameWalk
             chunks,
             present: false,
             replies: 0,
-            end: p + 4,
+            end: p + wire::WORD_BYTES,
         }),
         ChunkStep::Chunk(m) => FrameWalk::Found(Shape {
             kind,
@@ -115,7 +140,7 @@ fn walk_lists(s: &[u8], kind: Kind) -> FrameWalk
             chunks,
             present: true,
             replies: m,
-            end: p + 8 + m * 16,
+            end: p + lists::CHUNK_HEAD_BYTES + m * wire::SEGMENT_BYTES,
         }),
     }
 }
@@ -138,21 +163,21 @@ fn walk_error(s: &[u8]) -> FrameWalk
     requires { ⌜ 16 ≤ length (now s) ⌝ }
     ensures { λ r. ⌜ r ≡ frameWalk (length (now (s .entry))) (errorBody (wordAt (now (s .entry)) 0) (wordAt (now (s .entry)) 8) (drop 16 (now (s .entry)))) ⌝ }
 {
-    let word = wire::first_word(&s[16..]);
+    let word = wire::first_word(&s[FIXED_BYTES..]);
     let Word::Value(code) = word else {
         return FrameWalk::Refused(wire::refusal(word));
     };
-    if code == 1 {
-        if s.len() < 28 {
+    if code == CODE_VERSION {
+        if s.len() < VERSION_ERROR_BYTES {
             return FrameWalk::Refused(wire::ENDS_INSIDE_FIELD);
         }
         return error_shape(
-            ErrorKind::Version(wire::word_at(s, 20), wire::word_at(s, 24)),
-            28,
+            ErrorKind::Version(wire::word_at(s, LOW_AT), wire::word_at(s, HIGH_AT)),
+            VERSION_ERROR_BYTES,
         );
     }
-    if code == 2 {
-        return error_shape(ErrorKind::Chunk, 20);
+    if code == CODE_CHUNK {
+        return error_shape(ErrorKind::Chunk, CHUNK_ERROR_BYTES);
     }
     FrameWalk::Refused(OTHER_ERROR_CODE)
 }
@@ -178,10 +203,10 @@ pub fn walk_frame(s: &[u8]) -> FrameWalk
     if size < FIXED_BYTES {
         return FrameWalk::Refused(SHORT_FRAME);
     }
-    if wire::word_at(s, 4) != 1 {
+    if wire::word_at(s, VERSION_AT) != VERSION {
         return FrameWalk::Refused(OTHER_VERSION);
     }
-    let procedure = wire::word_at(s, 12);
+    let procedure = wire::word_at(s, PROCEDURE_AT);
     match procedure {
         0 => walk_lists(s, Kind::Msg),
         1 => ended(walk_lists(s, Kind::Nomsg), size),
@@ -239,12 +264,12 @@ fn fill_header(s: &[u8], shape: Shape) -> Header
         length: 0,
         offset: 0,
     };
-    let segments = lists::fill_reads(&s[16..], n);
+    let segments = lists::fill_reads(&s[FIXED_BYTES..], n);
     let reads = ReadList {
         segments,
         count: n as u32,
     };
-    let w = 20 + n * 24;
+    let w = EMPTY_READS_BYTES + n * lists::MARKED_ENTRY_BYTES;
     let empty = WriteList {
         segments: [z; 16],
         counts: [0u32; 4],
@@ -252,7 +277,7 @@ fn fill_header(s: &[u8], shape: Shape) -> Header
     };
     let writes = lists::fill_writes(&s[w..], chunks, empty);
     let end = shape.end;
-    let run = lists::fill_segments(s, end - m * 16, m, 0, [z; 16]);
+    let run = lists::fill_segments(s, end - m * wire::SEGMENT_BYTES, m, 0, [z; 16]);
     let reply = ReplyChunk {
         segments: run,
         count: m as u32,
@@ -263,8 +288,8 @@ fn fill_header(s: &[u8], shape: Shape) -> Header
         writes,
         reply,
         kind,
-        xid: wire::word_at(s, 0),
-        credit: wire::word_at(s, 8),
+        xid: wire::word_at(s, XID_AT),
+        credit: wire::word_at(s, CREDIT_AT),
     }
 }
 
@@ -297,8 +322,8 @@ pub fn read_header(s: &[u8]) -> ReadAnswer
         return ReadAnswer {
             header: bare(
                 kind,
-                wire::word_at(s, 0),
-                wire::word_at(s, 8),
+                wire::word_at(s, XID_AT),
+                wire::word_at(s, CREDIT_AT),
                 shape.present,
             ),
             number: 0,

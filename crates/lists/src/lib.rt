@@ -20,6 +20,14 @@ pub const WRITE_SEGMENTS: usize = 16;
 
 pub const REPLY_SEGMENTS: usize = 16;
 
+// A marker and a read entry.
+pub const MARKED_ENTRY_BYTES: usize = 24;
+// A marker and a segment count.
+pub const CHUNK_HEAD_BYTES: usize = 8;
+
+// "a read position that is no multiple of 4": what it has to be a multiple of
+const POSITION_UNIT: u32 = 4;
+
 // "a marker word above 1"
 pub const BAD_MARKER: u32 = 6;
 // "an entry or count that goes over a limit above"
@@ -100,7 +108,7 @@ fn read_entry(s: &[u8], last: u32) -> ReadStep
         return ReadStep::Refused(wire::ENDS_INSIDE_FIELD);
     }
     let position = wire::word_at(s, 0);
-    if position % 4 != 0 {
+    if position % POSITION_UNIT != 0 {
         return ReadStep::Refused(POSITION_UNALIGNED);
     }
     if position < last {
@@ -121,7 +129,7 @@ fn read_step(s: &[u8], room: usize, last: u32) -> ReadStep
             if room == 0 {
                 return ReadStep::Refused(OVER_LIMIT);
             }
-            read_entry(&s[4..], last)
+            read_entry(&s[wire::WORD_BYTES..], last)
         }
     }
 }
@@ -136,7 +144,7 @@ fn walk_entries(s: &[u8], room: usize, last: u32) -> usize
     match step {
         ReadStep::End => READ_SEGMENTS - room,
         ReadStep::Refused(number) => REFUSED + number as usize,
-        ReadStep::Entry(position) => walk_entries(&s[24..], room - 1, position),
+        ReadStep::Entry(position) => walk_entries(&s[MARKED_ENTRY_BYTES..], room - 1, position),
     }
 }
 
@@ -148,7 +156,10 @@ pub fn walk_reads(s: &[u8]) -> ListWalk
     if REFUSED <= answer {
         return ListWalk::Refused((answer - REFUSED) as u32);
     }
-    ListWalk::Done(answer, s.len() - 4 - answer * 24)
+    ListWalk::Done(
+        answer,
+        s.len() - wire::WORD_BYTES - answer * MARKED_ENTRY_BYTES,
+    )
 }
 
 // The counted run of segments at the front of s, where `left` segments may come.
@@ -164,7 +175,7 @@ fn count_step(s: &[u8], left: usize) -> ChunkStep
     if left < n {
         return ChunkStep::Refused(OVER_LIMIT);
     }
-    if s.len() < 4 + n * 16 {
+    if s.len() < wire::WORD_BYTES + n * wire::SEGMENT_BYTES {
         return ChunkStep::Refused(wire::ENDS_INSIDE_FIELD);
     }
     ChunkStep::Chunk(n)
@@ -183,7 +194,7 @@ pub fn chunk_step(s: &[u8], room: usize, left: usize) -> ChunkStep
             if room == 0 {
                 return ChunkStep::Refused(OVER_LIMIT);
             }
-            count_step(&s[4..], left)
+            count_step(&s[wire::WORD_BYTES..], left)
         }
     }
 }
@@ -195,10 +206,10 @@ pub fn walk_writes(s: &[u8], room: usize, left: usize) -> ListWalk
 {
     let step = chunk_step(s, room, left);
     match step {
-        ChunkStep::End => ListWalk::Done(WRITE_CHUNKS - room, s.len() - 4),
+        ChunkStep::End => ListWalk::Done(WRITE_CHUNKS - room, s.len() - wire::WORD_BYTES),
         ChunkStep::Refused(number) => ListWalk::Refused(number),
         ChunkStep::Chunk(n) => {
-            let end = 8 + n * 16;
+            let end = CHUNK_HEAD_BYTES + n * wire::SEGMENT_BYTES;
             walk_writes(&s[end..], room - 1, left - n)
         }
     }
@@ -219,7 +230,7 @@ pub fn fill_reads(s: &[u8], n: usize) -> [ReadSegment; 16]
     };
     let mut to = [none; 16];
     for k in 0..n {
-        to[k] = wire::read_segment_at(s, k * 24 + 4);
+        to[k] = wire::read_segment_at(s, k * MARKED_ENTRY_BYTES + wire::WORD_BYTES);
     }
     to
 }
@@ -237,7 +248,7 @@ pub fn fill_segments(
 {
     let mut to = segments;
     for k in 0..n {
-        to[i + k] = wire::segment_at(s, from + k * 16);
+        to[i + k] = wire::segment_at(s, from + k * wire::SEGMENT_BYTES);
     }
     to
 }
@@ -252,12 +263,12 @@ pub fn fill_writes(s: &[u8], n: usize, list: WriteList) -> WriteList
     let mut from = 0;
     let mut used = 0;
     for i in 0..n {
-        let count = wire::word_at(s, from + 4);
+        let count = wire::word_at(s, from + wire::WORD_BYTES);
         let d = count as usize;
         counts[i] = count;
-        let filled = fill_segments(s, from + 8, d, used, segments);
+        let filled = fill_segments(s, from + CHUNK_HEAD_BYTES, d, used, segments);
         segments = filled;
-        from += 8 + d * 16;
+        from += CHUNK_HEAD_BYTES + d * wire::SEGMENT_BYTES;
         used += d;
     }
     WriteList {
@@ -276,7 +287,7 @@ pub fn positions_number(segments: [ReadSegment; 16], n: usize) -> u32
     for k in 0..n {
         let x = segments[k];
         let p = x.position;
-        if p % 4 != 0 {
+        if p % POSITION_UNIT != 0 {
             return POSITION_UNALIGNED;
         }
         if p < last {

@@ -26,6 +26,9 @@ pub const HEADER_LONG: u32 = 21;
 
 pub const LONGEST_HEADER: usize = 1024;
 
+// A code word, low and high.
+const VERSION_ERROR_BYTES: usize = 12;
+
 pub struct WriteAnswer {
     pub number: u32,
     pub length: usize,
@@ -88,9 +91,9 @@ fn reply_length(present: bool, count: usize) -> usize
     ensures { λ r. ⌜ r ≡ cond present (8 + count * 16) 4 ⌝ }
 {
     if present {
-        return 8 + count * 16;
+        return lists::CHUNK_HEAD_BYTES + count * wire::SEGMENT_BYTES;
     }
-    4
+    wire::WORD_BYTES
 }
 
 // The bytes of the three parts.
@@ -98,15 +101,17 @@ fn lists_length(reads: usize, chunks: usize, segments: usize, reply: usize) -> u
     requires { ⌜ (reads ≤ 16) × (chunks ≤ 4) × (segments ≤ 16) × (reply ≤ 264) ⌝ }
     ensures { λ r. ⌜ r ≡ (reads * 24 + 4) + ((chunks * 8 + segments * 16 + 4) + reply) ⌝ }
 {
-    (reads * 24 + 4) + ((chunks * 8 + segments * 16 + 4) + reply)
+    (reads * lists::MARKED_ENTRY_BYTES + wire::WORD_BYTES)
+        + ((chunks * lists::CHUNK_HEAD_BYTES + segments * wire::SEGMENT_BYTES + wire::WORD_BYTES)
+            + reply)
 }
 
 fn error_length(e: ErrorKind) -> usize
     ensures { λ r. ⌜ r ≡ length (errorBytes e) ⌝ }
 {
     match e {
-        ErrorKind::Version(_, _) => 12,
-        ErrorKind::Chunk => 4,
+        ErrorKind::Version(_, _) => VERSION_ERROR_BYTES,
+        ErrorKind::Chunk => wire::WORD_BYTES,
     }
 }
 
@@ -124,9 +129,10 @@ fn header_length(
 {
     let Kind::Error(e) = kind else {
         let segments = total_count(counts, chunks) as usize;
-        return 16 + lists_length(reads, chunks, segments, reply_length(present, replies));
+        return header::FIXED_BYTES
+            + lists_length(reads, chunks, segments, reply_length(present, replies));
     };
-    16 + error_length(e)
+    header::FIXED_BYTES + error_length(e)
 }
 
 // The number that writing a header into `room` bytes gives.
@@ -180,7 +186,7 @@ fn put_segments(out: &mut [u8], k: usize, segments: [Segment; 16], i: usize, n: 
 {
     for j in 0..n {
         let x = segments[i + j];
-        wire::put_segment(out, k + j * 16, x);
+        wire::put_segment(out, k + j * wire::SEGMENT_BYTES, x);
     }
 }
 
@@ -190,8 +196,8 @@ fn put_chunk(out: &mut [u8], k: usize, segments: [Segment; 16], i: usize, n: usi
     ensures { λ _. ⌜ now (out .exit) ≡ stored (now (out .entry)) k (chunkBytes (take n (drop i segments))) ⌝ }
 {
     wire::put_word(out, k, 1);
-    wire::put_word(out, k + 4, n as u32);
-    put_segments(out, k + 8, segments, i, n);
+    wire::put_word(out, k + wire::WORD_BYTES, n as u32);
+    put_segments(out, k + lists::CHUNK_HEAD_BYTES, segments, i, n);
 }
 
 // Writes the entries of a read list and its end.
@@ -201,10 +207,10 @@ fn put_reads(out: &mut [u8], k: usize, segments: [ReadSegment; 16], n: usize)
 {
     for j in 0..n {
         let x = segments[j];
-        wire::put_word(out, k + j * 24, 1);
-        wire::put_read_segment(out, k + j * 24 + 4, x);
+        wire::put_word(out, k + j * lists::MARKED_ENTRY_BYTES, 1);
+        wire::put_read_segment(out, k + j * lists::MARKED_ENTRY_BYTES + wire::WORD_BYTES, x);
     }
-    wire::put_word(out, k + n * 24, 0);
+    wire::put_word(out, k + n * lists::MARKED_ENTRY_BYTES, 0);
 }
 
 // Writes the n chunks of a write list and its end; answers where it ends.
@@ -223,11 +229,11 @@ fn put_writes(
     for j in 0..n {
         let d = counts[j] as usize;
         put_chunk(out, end, segments, used, d);
-        end += 8 + d * 16;
+        end += lists::CHUNK_HEAD_BYTES + d * wire::SEGMENT_BYTES;
         used += d;
     }
     wire::put_word(out, end, 0);
-    end + 4
+    end + wire::WORD_BYTES
 }
 
 // Writes a reply chunk, or its absence; answers where it ends.
@@ -237,10 +243,10 @@ fn put_reply(out: &mut [u8], k: usize, segments: [Segment; 16], present: bool, n
 {
     if present {
         put_chunk(out, k, segments, 0, n);
-        return k + 8 + n * 16;
+        return k + lists::CHUNK_HEAD_BYTES + n * wire::SEGMENT_BYTES;
     }
     wire::put_word(out, k, 0);
-    k + 4
+    k + wire::WORD_BYTES
 }
 
 // Writes what stands behind the fixed words of an ERROR header; answers where it ends.
@@ -250,14 +256,14 @@ fn put_error(out: &mut [u8], k: usize, e: ErrorKind) -> usize
 {
     match e {
         ErrorKind::Version(low, high) => {
-            wire::put_word(out, k, 1);
-            wire::put_word(out, k + 4, low);
+            wire::put_word(out, k, header::CODE_VERSION);
+            wire::put_word(out, k + wire::WORD_BYTES, low);
             wire::put_word(out, k + 8, high);
-            k + 12
+            k + VERSION_ERROR_BYTES
         }
         ErrorKind::Chunk => {
-            wire::put_word(out, k, 2);
-            k + 4
+            wire::put_word(out, k, header::CODE_CHUNK);
+            k + wire::WORD_BYTES
         }
     }
 }
@@ -277,10 +283,10 @@ fn put_fixed(out: &mut [u8], kind: Kind, xid: u32, credit: u32)
     requires { ⌜ 16 ≤ length (now out) ⌝ }
     ensures { λ _. ⌜ now (out .exit) ≡ stored (now (out .entry)) 0 (fixedBytes kind xid credit) ⌝ }
 {
-    wire::put_word(out, 0, xid);
-    wire::put_word(out, 4, 1);
-    wire::put_word(out, 8, credit);
-    wire::put_word(out, 12, procedure_of(kind));
+    wire::put_word(out, header::XID_AT, xid);
+    wire::put_word(out, header::VERSION_AT, header::VERSION);
+    wire::put_word(out, header::CREDIT_AT, credit);
+    wire::put_word(out, header::PROCEDURE_AT, procedure_of(kind));
 }
 
 // Writes the three parts behind the fixed words; answers where they end.
@@ -290,10 +296,16 @@ fn put_lists(out: &mut [u8], reads: ReadList, writes: WriteList, reply: ReplyChu
 {
     let segments = reads.segments;
     let n = reads.count as usize;
-    put_reads(out, 16, segments, n);
+    put_reads(out, header::FIXED_BYTES, segments, n);
     let chunks = writes.segments;
     let counts = writes.counts;
-    let end = put_writes(out, 20 + n * 24, chunks, counts, writes.chunks as usize);
+    let end = put_writes(
+        out,
+        header::EMPTY_READS_BYTES + n * lists::MARKED_ENTRY_BYTES,
+        chunks,
+        counts,
+        writes.chunks as usize,
+    );
     let replies = reply.segments;
     put_reply(out, end, replies, reply.present, reply.count as usize)
 }
@@ -311,7 +323,7 @@ fn put_header(out: &mut [u8], h: Header) -> usize
         let reply = h.reply;
         return put_lists(out, reads, writes, reply);
     };
-    put_error(out, 16, e)
+    put_error(out, header::FIXED_BYTES, e)
 }
 
 // Writes a header at the front of a buffer and keeps the bytes behind it.
