@@ -8,8 +8,7 @@ use Prim.Native.Nat.{ℕ, zero, suc, _≤_}
 use native.Mathlib.Omega.{arith}
 use lib.ListN.{length, take, drop, length-drop, length-map}
 use lib.Seq.{take-append-seam, drop-append-seam, take-add, length-take-le}
-use Rattle.wire.specs.Wire.{joined}
-use Rattle.wire.specs.Wire.{zeroSegment, zeroReadSegment}
+use Rattle.wire.specs.Wire.{joined, zeroSegment, zeroReadSegment}
 use Rattle.header.specs.Content.{Content, padded, readListOf, replyChunkOf, headerOf, runs, replyOf, contentOf}
 use Rattle.writer.specs.Write.{total}
 use Rattle.claims.specs.RoundTrip.{All, zeroedReply, zeroed}

@@ -11,7 +11,7 @@ use lib.ListN.{length, drop}
 use lib.Seq.{drop-drop}
 use lib.Dec.{leb, eqb}
 use Rattle.wire.specs.Wire.{wordAt, wordOf, wordBytes}
-use Rattle.lists.specs.Parsed.{Parsed, refused, done, require}
+use Rattle.lists.specs.Parsed.{Parsed, refused, done}
 use Rattle.lists.specs.Lists.{afterWord, readList, positionsNumber, writeList, replyChunk}
 use Rattle.header.specs.Content.{Content}
 use Rattle.header.specs.Frame.{threeParts, errorBody, errorContent, nothingBehind, byProcedure, readFrame}

@@ -6,8 +6,7 @@ use mathlib.Core.Option.{Option, none, some}
 use Prim.Native.Nat.{ℕ, zero, suc, _-_, _≤_}
 use native.Mathlib.Omega.{arith}
 use lib.ListN.{length, replicate, length-append, length-replicate, length-map}
-use Rattle.wire.specs.Wire.{joined}
-use Rattle.wire.specs.Wire.{zeroSegment}
+use Rattle.wire.specs.Wire.{joined, zeroSegment}
 use Rattle.header.specs.Content.{Content, padded, replyChunkOf, headerOf}
 use Rattle.writer.specs.Write.{total}
 use Rattle.claims.specs.RoundTrip.{Word32, All, SegmentFits, ReadSegmentFits, Representable}

@@ -4,24 +4,23 @@ use mathlib.Core.Path.{_≡_, refl, sym, ap, subst, _∙_}
 use mathlib.Core.Bool.{Bool, true, false, cond}
 use mathlib.Core.List.{List, [], _∷_, _++_, map}
 use mathlib.Core.Option.{Option, none, some}
-use Prim.Native.Nat.{ℕ, zero, suc, _+_, _-_, _*_, _≤_, _<_}
+use Prim.Native.Nat.{ℕ, _+_, _-_, _*_, _≤_}
 use native.Mathlib.Omega.{arith}
 use native.Mathlib.Nat.{zero-add}
-use borrow.Author.Tests.{leb-true, eqb-true}
-use lib.ListN.{length, take, drop, replicate, length-drop, length-replicate, length-map, replicate-append-replicate}
+use borrow.Author.Tests.{leb-true}
+use lib.ListN.{length, drop, replicate, length-drop, length-replicate, length-map, replicate-append-replicate}
 use lib.Seq.{sets-eq, drop-drop, drop-at}
 use lib.Dec.{leb, eqb}
-use Rattle.wire.specs.Wire.{wordAt, wordOf, segmentAt, stored, joined}
+use Rattle.wire.specs.Wire.{wordAt, wordOf, segmentAt, stored, joined, zeroSegment, zeroReadSegment}
 use Rattle.wire.specs.declared.Word.{Word}
 use Rattle.wire.specs.declared.Word.the-variants as word
 use Rattle.wire.specs.declared.Segment.{Segment}
 use Rattle.wire.specs.declared.ReadSegment.{ReadSegment}
-use Rattle.lists.specs.Parsed.{Parsed, refused, done, andThen, require, each}
-use Rattle.lists.specs.Lists.{afterWord, markerOf, readList, writeList, counted, replyChunk}
+use Rattle.lists.specs.Parsed.{Parsed, refused, done, each}
+use Rattle.lists.specs.Lists.{afterWord, readList, writeList, replyChunk}
 use Rattle.lists.specs.Steps.{markedSegmentAt, chunksAt, ChunksFit, withChunks, zeroReads}
-use Rattle.wire.specs.Wire.{zeroSegment, zeroReadSegment}
 use Rattle.lists.specs.declared.WriteList.{WriteList}
-use Rattle.lists.proofs.Laws.{never, required, both, word-room, Chunk, chunk-of, end-room, ChunkFront, chunk-front}
+use Rattle.lists.proofs.Laws.{never, required, both, word-room, Chunk, chunk-of, ChunkFront, chunk-front}
 use Rattle.lists.proofs.Laws as laws
 use Rattle.lists.proofs.Found.{reads-of, writes-of, reply-refused, reply-absent, reply-chunk, ReadsAre, WritesAre}
 use Rattle.header.specs.Content.{Content, padded, readListOf, writeListOf, replyChunkOf, headerOf}

@@ -1,37 +1,33 @@
 -- Laws about a frame that is checked from left to right: what each answer says of the frame.
 -- Assumes nothing.
-use mathlib.Core.Path.{_≡_, refl, sym, ap, subst, _∙_}
-use mathlib.Core.Bool.{Bool, true, false, cond}
-use mathlib.Core.List.{List, [], _∷_}
+use mathlib.Core.Path.{_≡_, refl, sym, ap, _∙_}
+use mathlib.Core.Bool.{Bool, true, false}
+use mathlib.Core.List.{List}
 use mathlib.Core.Option.{Option, none, some}
-use Prim.Native.Nat.{ℕ, zero, suc, _+_, _-_, _*_, _≤_, _<_}
+use Prim.Native.Nat.{ℕ, _+_, _-_, _*_, _≤_, _<_}
 use native.Mathlib.Omega.{arith}
 use borrow.Author.Tests.{le-leb, lt-leb, leb-true, leb-false, eq-eqb, ne-eqb, eqb-true, eqb-false}
 use lib.ListN.{length, take, drop, length-drop}
 use lib.Seq.{drop-drop}
 use lib.Dec.{leb, eqb}
-use Rattle.wire.specs.Wire.{wordAt, wordOf, segmentAt}
+use Rattle.wire.specs.Wire.{wordAt, wordOf}
 use Rattle.wire.specs.declared.Word.the-variants as word
 use Rattle.wire.specs.declared.Segment.{Segment}
 use Rattle.wire.specs.declared.ReadSegment.{ReadSegment}
 use Rattle.wire.proofs.Laws.{part-from, word-drop}
-use Rattle.lists.specs.Parsed.{Parsed, refused, done, andThen, require, each}
-use Rattle.lists.specs.Lists.{afterWord, readList, writeList, replyChunk}
+use Rattle.lists.specs.Parsed.{Parsed, refused, done, each}
+use Rattle.lists.specs.Lists.{readList, writeList, replyChunk}
 use Rattle.lists.specs.Steps.{chunkStep, listWalk}
 use Rattle.lists.specs.declared.ListWalk.{ListWalk}
 use Rattle.lists.specs.declared.ListWalk.the-variants as list
 use Rattle.lists.specs.declared.ChunkStep.{ChunkStep}
 use Rattle.lists.specs.declared.ChunkStep.the-variants as chunk
-use Rattle.lists.proofs.Found.{Checked, checked, unchecked, ReadsAre, reads-of, WritesAre, writes-of, reply-refused, reply-absent, ReplyIs, reply-present}
+use Rattle.lists.proofs.Found.{checked, unchecked, reads-of, writes-of, reply-refused, reply-absent, reply-present}
 use Rattle.header.specs.Content.{Content}
-use Rattle.header.specs.Frame.{threeParts, errorContent, errorBody, nothingBehind, byProcedure, readFrame}
-use Rattle.header.specs.Shape.{isPresent, replies, shapeOf, errorShape, frameWalk, endedWalk}
+use Rattle.header.specs.Frame.{threeParts, errorBody, nothingBehind}
+use Rattle.header.specs.Shape.{shapeOf, errorShape, frameWalk, endedWalk}
 use Rattle.header.specs.declared.Kind.{Kind}
-use Rattle.header.specs.declared.Kind.the-variants.{Msg, Nomsg, Error}
-use Rattle.header.specs.declared.ErrorKind.{ErrorKind}
 use Rattle.header.specs.declared.ErrorKind.the-variants.{Version, Chunk}
-use Rattle.header.specs.declared.Shape.{Shape}
-use Rattle.header.specs.declared.FrameWalk.{FrameWalk}
 use Rattle.header.specs.declared.FrameWalk.the-variants as walk
 
 -- The last `left` bytes of s, lent from their place on.

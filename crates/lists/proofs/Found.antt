@@ -1,8 +1,8 @@
 -- What a list that was read says of the bytes it was read from: how long it is, where its entries stand, what is behind it.
 -- Assumes nothing.
 use mathlib.Core.Path.{_≡_, refl, sym, ap, subst, _∙_}
-use mathlib.Core.List.{List, [], _∷_, _++_}
-use mathlib.Core.Option.{Option, none, some}
+use mathlib.Core.List.{List, [], _∷_}
+use mathlib.Core.Option.{none, some}
 use Prim.Native.Nat.{ℕ, zero, suc, _+_, _-_, _*_, _≤_, _<_}
 use native.Mathlib.Omega.{arith}
 use native.Mathlib.Nat.{suc-mul}
@@ -11,7 +11,7 @@ use lib.Seq.{drop-drop}
 use Rattle.wire.specs.Wire.{wordAt, segmentAt, readSegmentAt, joined}
 use Rattle.wire.specs.declared.Segment.{Segment}
 use Rattle.wire.specs.declared.ReadSegment.{ReadSegment}
-use Rattle.lists.specs.Parsed.{Parsed, refused, done, andThen, prepend, each}
+use Rattle.lists.specs.Parsed.{Parsed, refused, done, prepend, each}
 use Rattle.lists.specs.Lists.{markerOf, readList, counted, writeList, replyChunk}
 use Rattle.lists.specs.Steps.{chunkStep, listWalk, packedWalk, markedSegmentAt, chunksAt, ChunksFit}
 use Rattle.lists.specs.declared.Marker.the-variants as marker

@@ -2,7 +2,7 @@
 -- Assumes nothing.
 use mathlib.Core.Path.{_≡_, refl, sym, ap, subst, _∙_}
 use mathlib.Core.Bool.{Bool, true, false, cond}
-use mathlib.Core.List.{List, [], _∷_, _++_, map}
+use mathlib.Core.List.{List, [], _∷_, map}
 use Prim.Native.Nat.{ℕ, zero, suc, _+_, _-_, _*_, _%_, _≤_, _<_}
 use native.Mathlib.Nat.{add-zero}
 use native.Mathlib.Omega.{arith}
@@ -16,16 +16,13 @@ use Rattle.wire.specs.declared.Word.the-variants as word
 use Rattle.wire.specs.declared.Segment.{Segment}
 use Rattle.wire.specs.declared.ReadSegment.{ReadSegment}
 use Rattle.lists.specs.Parsed.{Parsed, refused, done, andThen, require, prepend, each}
-use Rattle.lists.specs.Lists.{markerWord, markerOf, afterMarker, optional, readEntry, readList, segments, afterWord, counted, writeList, replyChunk}
-use Rattle.lists.specs.Steps.{entryStep, readMarked, readStep, countStep, chunkMarked, chunkStep, listWalk, packedWalk, chunksAt, ChunksFit, withChunks}
+use Rattle.lists.specs.Lists.{markerWord, markerOf, readEntry, readList, segments, afterWord, counted, writeList}
+use Rattle.lists.specs.Steps.{readStep, countStep, chunkStep, listWalk, packedWalk, chunksAt, ChunksFit, withChunks}
 use Rattle.lists.specs.declared.Marker.{Marker}
 use Rattle.lists.specs.declared.Marker.the-variants as marker
-use Rattle.lists.specs.declared.ReadStep.{ReadStep}
 use Rattle.lists.specs.declared.ReadStep.the-variants as read
-use Rattle.lists.specs.declared.ChunkStep.{ChunkStep}
 use Rattle.lists.specs.declared.ChunkStep.the-variants as chunk
 use Rattle.lists.specs.declared.WriteList.{WriteList}
-use Rattle.lists.specs.declared.ListWalk.{ListWalk}
 use Rattle.lists.specs.declared.ListWalk.the-variants as walk
 use Rattle.wire.proofs.Laws.{word-drop, read-segment-drop, stored-append}
 use Rattle.lists.proofs.Items.{length-each, store-cons}

@@ -1,6 +1,6 @@
 -- What the library wrote is what the export says.
 -- Assumes nothing.
-use mathlib.Core.Path.{_≡_, sym, ap, _∙_}
+use mathlib.Core.Path.{_≡_}
 use mathlib.Core.List.{List}
 use Prim.Native.Nat.{ℕ, _≤_}
 use borrow.Author.Tests.{le-leb}
@@ -12,7 +12,6 @@ use Rattle.writer.specs.declared.WriteAnswer.{WriteAnswer}
 use Rattle.writer.specs.Write.{writeAnswer, writtenInto}
 use Rattle.port.specs.Flat.{kindOf, headerAt, flatWritten, flatInto}
 use Rattle.port.specs.declared.FlatHeader.{FlatHeader}
-use Rattle.port.specs.declared.Known.{Known}
 use Rattle.port.specs.declared.Known.the-variants.{Is}
 
 pub port-written : (f : FlatHeader) (kind : Kind) (h : Header) (before after : List ℕ) (r : WriteAnswer) →

@@ -1,28 +1,21 @@
-use mathlib.Core.Path.{_≡_, refl, sym, ap, _∙_}
+-- `header::ended` meets its contract.
 use borrow.Author.Tests.{eq-eqb, ne-eqb}
 use borrow.Author.Needs.{needs}
 use Rattle.header.proofs.ended.Statement.{statement}
 use Rattle.header.proofs.ended.Tie as tie
-use Rattle.header.proofs.ended.Reads as reads
-use Rattle.header.proofs.ended.Lts as lts
 
--- src/lib.rt:161:26
 enum-known-walk : tie.Need-enum-known-walk
 enum-known-walk c = search needs
 
--- src/lib.rt:162:9
 enum-told : tie.Need-enum-told
 enum-told c = search needs
 
--- src/lib.rt:162:9
 returns : tie.Need-returns
 returns c = search needs
 
--- src/lib.rt:165:9
 returns-2 : tie.Need-returns-2
 returns-2 c = simp (c .before .before .before .walk .given .1, ne-eqb _ _ (c .if1 .taken))
 
--- src/lib.rt:158:1
 returns-3 : tie.Need-returns-3
 returns-3 c = simp (c .before .before .before .walk .given .1, eq-eqb _ _ (c .if1 .left))
 

@@ -1,27 +1,18 @@
-use Rattle.header.proofs.Lies.{Found, Bounds, bounds}
+-- `header::fill_header` meets its contract.
+use Rattle.header.proofs.Lies.{Found, Bounds, bounds, found, built-by, chunks-fit}
 use Rattle.lists.specs.Steps.{markedSegmentAt, zeroReads, withChunks, chunksAt}
-use Rattle.wire.specs.Wire.{zeroSegment}
+use Rattle.wire.specs.Wire.{zeroSegment, stored}
 use Rattle.lists.specs.Parsed.{each}
-use Rattle.wire.specs.Wire.{stored}
-use lib.ListN.{replicate}
+use lib.ListN.{replicate, length-drop}
 use Prim.Native.Nat.{ℕ, _+_, _*_}
 use mathlib.Core.List.{List}
-use Rattle.header.proofs.Lies.{found, built-by, chunks-fit}
-use lib.ListN.{length-drop}
 use Rattle.wire.proofs.Laws.{part-from}
 use denote.Ref.{now}
 use native.Mathlib.Omega.{arith}
-use mathlib.Core.Path.{_≡_, refl, sym, ap, _∙_}
-use Rattle.header.proofs.Lies.{found, built}
+use mathlib.Core.Path.{ap, _∙_}
 use borrow.Author.Needs.{needs}
 use Rattle.header.proofs.fill_header.Statement.{statement}
 use Rattle.header.proofs.fill_header.Tie as tie
-use Rattle.header.proofs.fill_header.Reads as reads
-use Rattle.header.proofs.fill_header.Lts as lts
-use Rattle.lists.proofs.fill_reads.Reads as fill-reads-reads
-use Rattle.lists.proofs.fill_segments.Reads as fill-segments-reads
-use Rattle.lists.proofs.fill_writes.Reads as fill-writes-reads
-use Rattle.wire.proofs.word_at.Reads as word-at-reads
 
 -- What the caller showed: the frame was read, and its shape keeps the bounds.
 found-at : (c : tie.Start) → Found (now (c .args .s)) (c .args .shape)
@@ -30,81 +21,62 @@ found-at c = found _ _ (c .pre)
 bounds-at : (c : tie.Start) → Bounds (now (c .args .s)) (c .args .shape)
 bounds-at c = bounds _ _ (found-at c)
 
--- src/lib.rt:239:38
 sub-fill-reads : tie.Need-sub-fill-reads
 sub-fill-reads c = let b = bounds-at (c .before) in omega arith
 
--- src/lib.rt:239:38
 part-fill-reads-start : tie.Need-part-fill-reads-start
 part-fill-reads-start c = let b = bounds-at (c .before) in omega arith
 
--- src/lib.rt:239:38
 part-fill-reads-end : tie.Need-part-fill-reads-end
 part-fill-reads-end c = search needs
 
--- src/lib.rt:239:9
 fill-reads-requires : tie.Need-fill-reads-requires
 fill-reads-requires c κs =
     let b = bounds-at (c .before .before) in
     (b .reads-few, rw part-from (omega (arith, length-drop 16 (now (c .before .before .args .s)))))
 
--- src/lib.rt:242:16
 cast-t20 : tie.Need-cast-t20
 cast-t20 c = let b = bounds-at (c .before .before .before) in omega arith
 
--- src/lib.rt:244:18
 mul-w : tie.Need-mul-w
 mul-w c = let b = bounds-at (c .before .before .before) in omega arith
 
--- src/lib.rt:244:13
 add-w : tie.Need-add-w
 add-w c = let b = bounds-at (c .before .before .before) in omega arith
 
--- src/lib.rt:248:17
 cast-t20-2 : tie.Need-cast-t20-2
 cast-t20-2 c = let b = bounds-at (c .before .before .before) in omega arith
 
--- src/lib.rt:250:37
 sub-fill-writes : tie.Need-sub-fill-writes
 sub-fill-writes c = let b = bounds-at (c .before .before .before) in omega arith
 
--- src/lib.rt:250:37
 part-fill-writes-start : tie.Need-part-fill-writes-start
 part-fill-writes-start c = let b = bounds-at (c .before .before .before) in omega arith
 
--- src/lib.rt:250:37
 part-fill-writes-end : tie.Need-part-fill-writes-end
 part-fill-writes-end c = search needs
 
--- src/lib.rt:250:9
 fill-writes-requires : tie.Need-fill-writes-requires
 fill-writes-requires c κs = (bounds-at (c .before .before .before .before) .chunks-few, rw part-from (chunks-fit _ _ (found-at (c .before .before .before .before))))
 
--- src/lib.rt:252:45
 mul-fill-segments : tie.Need-mul-fill-segments
 mul-fill-segments c = let b = bounds-at (c .before .before .before .before .before) in omega arith
 
--- src/lib.rt:252:39
 sub-fill-segments : tie.Need-sub-fill-segments
 sub-fill-segments c = let b = bounds-at (c .before .before .before .before .before) in omega arith
 
--- src/lib.rt:252:9
 fill-segments-requires : tie.Need-fill-segments-requires
 fill-segments-requires c κs = let b = bounds-at (c .before .before .before .before .before) in (omega arith, omega arith)
 
--- src/lib.rt:255:16
 cast-t20-3 : tie.Need-cast-t20-3
 cast-t20-3 c = let b = bounds-at (c .before .before .before .before .before .before) in omega arith
 
--- src/lib.rt:263:14
 word-at-requires : tie.Need-word-at-requires
 word-at-requires c κs = let b = bounds-at (c .before .before .before .before .before .before) in omega arith
 
--- src/lib.rt:264:17
 word-at-requires-2 : tie.Need-word-at-requires-2
 word-at-requires-2 c κs = let b = bounds-at (c .before .before .before .before .before .before .before) in omega arith
 
--- src/lib.rt:226:1
 returns : tie.Need-returns
 returns c =
     let s = now (c .before .before .before .before .before .before .before .before .args .s) in

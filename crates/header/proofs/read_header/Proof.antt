@@ -1,77 +1,55 @@
-use Rattle.header.proofs.Lies.{bounds}
-use Rattle.header.proofs.Lies.{found, unfound, bare-read, answer-is}
+-- `header::read_header` meets its contract.
+use Rattle.header.proofs.Lies.{bounds, found, unfound, bare-read, answer-is}
 use denote.Ref.{now}
 use native.Mathlib.Omega.{arith}
-use mathlib.Core.Path.{_≡_, refl, sym, ap, _∙_}
-use Rattle.header.proofs.Lies.{found, unfound, bare-read}
+use mathlib.Core.Path.{sym, _∙_}
 use borrow.Author.Needs.{needs}
 use Rattle.header.proofs.read_header.Statement.{statement}
 use Rattle.header.proofs.read_header.Tie as tie
-use Rattle.header.proofs.read_header.Reads as reads
-use Rattle.header.proofs.read_header.Lts as lts
-use Rattle.header.proofs.bare.Reads as bare-reads
-use Rattle.header.proofs.fill_header.Reads as fill-header-reads
-use Rattle.header.proofs.frame_refusal.Reads as frame-refusal-reads
-use Rattle.header.proofs.walk_frame.Reads as walk-frame-reads
-use Rattle.wire.proofs.word_at.Reads as word-at-reads
 
--- src/lib.rt:282:9
 walk-frame-requires : tie.Need-walk-frame-requires
 walk-frame-requires c κs = search needs
 
--- src/lib.rt:283:26
 enum-known-walk : tie.Need-enum-known-walk
 enum-known-walk c = search needs
 
--- src/lib.rt:285:26
 enum-told : tie.Need-enum-told
 enum-told c = search needs
 
--- src/lib.rt:285:21
 bare-requires : tie.Need-bare-requires
 bare-requires c κs = search needs
 
--- src/lib.rt:286:21
 frame-refusal-requires : tie.Need-frame-refusal-requires
 frame-refusal-requires c κs = search needs
 
--- src/lib.rt:284:9
 returns : tie.Need-returns
 returns c =
     let r = unfound (now (c .before .before .before .before .before .before .args .s)) _ (sym (c .before .before .before .before .walk-frame .ensures) ∙ c .before .before .enum-told .given .1) in
     rw (r, c .before .bare .ensures, c .frame-refusal .ensures, c .before .before .enum-told .given .1)
 
--- src/lib.rt:293:8
 add-if1 : tie.Need-add-if1
 add-if1 c = let b = bounds _ _ (found (now (c .before .before .before .before .before .args .s)) (c .before .walk .given .0 .0) (sym (c .before .before .before .walk-frame .ensures) ∙ c .before .walk .given .1)) in omega arith
 
--- src/lib.rt:293:8
 add-if1-2 : tie.Need-add-if1-2
 add-if1-2 c = let b = bounds _ _ (found (now (c .before .before .before .before .before .args .s)) (c .before .walk .given .0 .0) (sym (c .before .before .before .walk-frame .ensures) ∙ c .before .walk .given .1)) in omega arith
 
--- src/lib.rt:295:32
 word-at-requires : tie.Need-word-at-requires
 word-at-requires c κs = let b = bounds _ _ (found (now (c .before .before .before .before .before .before .args .s)) (c .before .before .walk .given .0 .0) (sym (c .before .before .before .before .walk-frame .ensures) ∙ c .before .before .walk .given .1)) in omega arith
 
--- src/lib.rt:295:53
 word-at-requires-2 : tie.Need-word-at-requires-2
 word-at-requires-2 c κs = let b = bounds _ _ (found (now (c .before .before .before .before .before .before .before .args .s)) (c .before .before .before .walk .given .0 .0) (sym (c .before .before .before .before .before .walk-frame .ensures) ∙ c .before .before .before .walk .given .1)) in omega arith
 
--- src/lib.rt:295:21
 bare-requires-2 : tie.Need-bare-requires-2
 bare-requires-2 c κs = search needs
 
--- src/lib.rt:294:9
 returns-2 : tie.Need-returns-2
 returns-2 c =
     let f = found (now (c .before .before .before .before .before .before .before .before .before .args .s)) (c .before .before .before .before .before .walk .given .0 .0) (sym (c .before .before .before .before .before .before .before .walk-frame .ensures) ∙ c .before .before .before .before .before .walk .given .1) in
     rw (c .bare2 .ensures, c .before .before .word-at .ensures, c .before .word-at2 .ensures) (sym (bare-read (now (c .before .before .before .before .before .before .before .before .before .args .s)) (c .before .before .before .before .before .walk .given .0 .0) f (c .before .before .before .if1 .taken)))
 
--- src/lib.rt:300:17
 fill-header-requires : tie.Need-fill-header-requires
 fill-header-requires c κs = sym (c .before .before .before .before .walk-frame .ensures) ∙ c .before .before .walk .given .1
 
--- src/lib.rt:279:1
 returns-3 : tie.Need-returns-3
 returns-3 c = answer-is (now (c .before .before .before .before .before .before .before .args .s)) (c .before .before .before .walk .given .0 .0) (found (now (c .before .before .before .before .before .before .before .args .s)) (c .before .before .before .walk .given .0 .0) (sym (c .before .before .before .before .before .walk-frame .ensures) ∙ c .before .before .before .walk .given .1)) (c .fill-header .result) (c .fill-header .ensures)
 

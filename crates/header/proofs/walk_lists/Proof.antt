@@ -1,92 +1,70 @@
+-- `header::walk_lists` meets its contract.
 use mathlib.Core.Option.{none, some}
 use Rattle.header.specs.Shape.{listRefusal}
 use Rattle.wire.specs.Wire.{wordAt}
 use lib.ListN.{drop}
 use denote.Ref.{now}
 use native.Mathlib.Omega.{arith}
-use mathlib.Core.Path.{_≡_, refl, sym, ap, _∙_}
+use mathlib.Core.Path.{ap, _∙_}
 use Rattle.header.proofs.Walks.{reads-found, reads-refused, writes-found, writes-refused, no-reply, absent-reply, present-reply, parts-reads, parts-writes, parts-reply, parts-done}
 use borrow.Author.Needs.{needs}
 use Rattle.header.proofs.walk_lists.Statement.{statement}
 use Rattle.header.proofs.walk_lists.Tie as tie
-use Rattle.header.proofs.walk_lists.Reads as reads
-use Rattle.header.proofs.walk_lists.Lts as lts
-use Rattle.header.proofs.list_refusal.Reads as list-refusal-reads
-use Rattle.lists.proofs.chunk_step.Reads as chunk-step-reads
-use Rattle.lists.proofs.walk_reads.Reads as walk-reads-reads
-use Rattle.lists.proofs.walk_writes.Reads as walk-writes-reads
 
--- src/lib.rt:91:35
 sub-walk-reads : tie.Need-sub-walk-reads
 sub-walk-reads c = search needs
 
--- src/lib.rt:91:35
 part-walk-reads-start : tie.Need-part-walk-reads-start
 part-walk-reads-start c = search needs
 
--- src/lib.rt:91:35
 part-walk-reads-end : tie.Need-part-walk-reads-end
 part-walk-reads-end c = search needs
 
--- src/lib.rt:91:9
 walk-reads-requires : tie.Need-walk-reads-requires
 walk-reads-requires c κs = search needs
 
--- src/lib.rt:92:24
 enum-known-reads : tie.Need-enum-known-reads
 enum-known-reads c = search needs
 
--- src/lib.rt:93:35
 enum-told : tie.Need-enum-told
 enum-told c = search needs
 
--- src/lib.rt:93:35
 list-refusal-requires : tie.Need-list-refusal-requires
 list-refusal-requires c κs = search needs
 
--- src/lib.rt:93:9
 returns : tie.Need-returns
 returns c =
     let s = now (c .before .before .before .before .before .before .args .s) in
     let n = c .list-refusal .ensures ∙ ap listRefusal (c .before .enum-told .given .1) in
     rw n (parts-reads (c .before .before .before .before .before .before .args .kind) (wordAt s 0) (wordAt s 8) s (drop 16 s) _ (reads-refused s (c .before .before .before .walk-reads .result) (c .before .before .before .before .before .before .pre) (c .before .before .before .walk-reads .ensures) _ (c .before .enum-told .given .1)))
 
--- src/lib.rt:95:13
 sub-w : tie.Need-sub-w
 sub-w c =
     let s = now (c .before .before .before .before .before .before .args .s) in
     let a = reads-found s (c .before .before .before .walk-reads .result) (c .before .before .before .before .before .before .pre) (c .before .before .before .walk-reads .ensures) _ _ (c .before .reads .given .1) in
     a .fits
 
--- src/lib.rt:96:37
 sub-walk-writes : tie.Need-sub-walk-writes
 sub-walk-writes c = search needs
 
--- src/lib.rt:96:37
 part-walk-writes-start : tie.Need-part-walk-writes-start
 part-walk-writes-start c = search needs
 
--- src/lib.rt:96:37
 part-walk-writes-end : tie.Need-part-walk-writes-end
 part-walk-writes-end c = search needs
 
--- src/lib.rt:96:9
 walk-writes-requires : tie.Need-walk-writes-requires
 walk-writes-requires c κs = search needs
 
--- src/lib.rt:97:24
 enum-known-writes : tie.Need-enum-known-writes
 enum-known-writes c = search needs
 
--- src/lib.rt:98:35
 enum-told-2 : tie.Need-enum-told-2
 enum-told-2 c = search needs
 
--- src/lib.rt:98:35
 list-refusal-requires-2 : tie.Need-list-refusal-requires-2
 list-refusal-requires-2 c κs = search needs
 
--- src/lib.rt:98:9
 returns-2 : tie.Need-returns-2
 returns-2 c =
     let s = now (c .before .before .before .before .before .before .before .before .before .before .before .args .s) in
@@ -94,7 +72,6 @@ returns-2 c =
     let n = c .list-refusal2 .ensures ∙ ap listRefusal (c .before .enum-told2 .given .1) in
     rw n (parts-writes (c .before .before .before .before .before .before .before .before .before .before .before .args .kind) (wordAt s 0) (wordAt s 8) s (drop 16 s) (a .found) _ (a .read) _ (writes-refused s (c .before .before .before .walk-writes .result) _ (omega (arith, a .fits)) (c .before .before .before .walk-writes .ensures) _ (c .before .enum-told2 .given .1)))
 
--- src/lib.rt:100:13
 sub-p : tie.Need-sub-p
 sub-p c =
     let s = now (c .before .before .before .before .before .before .before .before .before .before .before .args .s) in
@@ -102,43 +79,33 @@ sub-p c =
     let b = writes-found s (c .before .before .before .walk-writes .result) _ (omega (arith, a .fits)) (c .before .before .before .walk-writes .ensures) _ _ (c .before .writes .given .1) in
     b .fits
 
--- src/lib.rt:101:35
 sub-chunk-step : tie.Need-sub-chunk-step
 sub-chunk-step c = search needs
 
--- src/lib.rt:101:35
 part-chunk-step-start : tie.Need-part-chunk-step-start
 part-chunk-step-start c = search needs
 
--- src/lib.rt:101:35
 part-chunk-step-end : tie.Need-part-chunk-step-end
 part-chunk-step-end c = search needs
 
--- src/lib.rt:101:9
 chunk-step-requires : tie.Need-chunk-step-requires
 chunk-step-requires c κs = search needs
 
--- src/lib.rt:103:28
 enum-known-reply : tie.Need-enum-known-reply
 enum-known-reply c = search needs
 
--- src/lib.rt:110:18
 enum-told-3 : tie.Need-enum-told-3
 enum-told-3 c = search needs
 
--- src/lib.rt:110:18
 add-t27 : tie.Need-add-t27
 add-t27 c = search needs
 
--- src/lib.rt:112:26
 enum-known-reply-2 : tie.Need-enum-known-reply-2
 enum-known-reply-2 c = search needs
 
--- src/lib.rt:118:18
 add-t29 : tie.Need-add-t29
 add-t29 c = search needs
 
--- src/lib.rt:118:26
 mul-t30 : tie.Need-mul-t30
 mul-t30 c =
     let s = now (c .before .before .before .before .before .before .before .before .before .before .before .before .before .before .before .before .args .s) in
@@ -147,7 +114,6 @@ mul-t30 c =
     let r = present-reply s (c .before .before .before .chunk-step .result) _ (omega (arith, b .fits)) (c .before .before .before .chunk-step .ensures) _ (c .before .reply2 .given .1) in
     omega (arith, r .few)
 
--- src/lib.rt:118:18
 add-t31 : tie.Need-add-t31
 add-t31 c =
     let s = now (c .before .before .before .before .before .before .before .before .before .before .before .before .before .before .before .before .args .s) in
@@ -156,7 +122,6 @@ add-t31 c =
     let r = present-reply s (c .before .before .before .chunk-step .result) _ (omega (arith, b .fits)) (c .before .before .before .chunk-step .ensures) _ (c .before .reply2 .given .1) in
     omega (arith, r .long)
 
--- src/lib.rt:87:1
 returns-3 : tie.Need-returns-3
 returns-3 c =
     let s = now (c .before .before .before .before .before .before .before .before .before .before .before .before .before .before .before .before .args .s) in
@@ -164,7 +129,6 @@ returns-3 c =
     let b = writes-found s (c .before .before .before .before .before .before .before .before .walk-writes .result) _ (omega (arith, a .fits)) (c .before .before .before .before .before .before .before .before .walk-writes .ensures) _ _ (c .before .before .before .before .before .before .writes .given .1) in
     parts-reply (c .before .before .before .before .before .before .before .before .before .before .before .before .before .before .before .before .args .kind) (wordAt s 0) (wordAt s 8) s (drop 16 s) (a .found) _ (a .read) (b .found) _ (b .read) _ (no-reply s (c .before .before .before .chunk-step .result) _ (omega (arith, b .fits)) (c .before .before .before .chunk-step .ensures) _ (c .before .reply .given .1))
 
--- src/lib.rt:87:1
 returns-4 : tie.Need-returns-4
 returns-4 c =
     let s = now (c .before .before .before .before .before .before .before .before .before .before .before .before .before .before .before .args .s) in
@@ -174,7 +138,6 @@ returns-4 c =
     let d = parts-done (c .before .before .before .before .before .before .before .before .before .before .before .before .before .before .before .args .kind) (wordAt s 0) (wordAt s 8) s (drop 16 s) (a .found) _ (a .read) (b .found) _ (b .read) none _ (r .0) (r .1) in
     rw (a .many, b .many) at d
 
--- src/lib.rt:87:1
 returns-5 : tie.Need-returns-5
 returns-5 c =
     let s = now (c .before .before .before .before .before .before .before .before .before .before .before .before .before .before .before .before .args .s) in

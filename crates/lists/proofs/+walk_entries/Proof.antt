@@ -1,3 +1,4 @@
+-- `lists::walk_entries` meets its contract.
 use Rattle.wire.proofs.Laws.{part-from}
 use mathlib.Core.Path.{_≡_, sym, _∙_}
 use Rattle.lists.proofs.Laws.{read-end, read-refused, read-further}
@@ -33,63 +34,48 @@ claims t = (
 )
 
 module _ (t : ℕ) where
-  -- src/lib.rt:135:9
   read-step-requires : lts.Need-read-step-requires (claims t) (at t) reads.Post
   read-step-requires c κs = search needs
 
-  -- src/lib.rt:137:26
   enum-told : lts.Need-enum-told (claims t) (at t) reads.Post
   enum-told c = search needs
 
-  -- src/lib.rt:137:26
   sub-result : lts.Need-sub-result (claims t) (at t) reads.Post
   sub-result c = search needs
 
-  -- src/lib.rt:138:27
   enum-known-step : lts.Need-enum-known-step (claims t) (at t) reads.Post
   enum-known-step c = search needs
 
-  -- src/lib.rt:138:48
   cast-result : lts.Need-cast-result (claims t) (at t) reads.Post
   cast-result c = search needs
 
-  -- src/lib.rt:138:38
   add-result : lts.Need-add-result (claims t) (at t) reads.Post
   add-result c = search needs
 
-  -- src/lib.rt:139:25
   enum-known-step-2 : lts.Need-enum-known-step-2 (claims t) (at t) reads.Post
   enum-known-step-2 c = search needs
 
-  -- src/lib.rt:139:51
   sub-walk-entries : lts.Need-sub-walk-entries (claims t) (at t) reads.Post
   sub-walk-entries c = read-further _ _ _ _ (sym (c .before .before .before .read-step .ensures) ∙ c .before .step2 .given .1) .long
 
-  -- src/lib.rt:139:51
   part-walk-entries-start : lts.Need-part-walk-entries-start (claims t) (at t) reads.Post
   part-walk-entries-start c = read-further _ _ _ _ (sym (c .before .before .before .read-step .ensures) ∙ c .before .step2 .given .1) .long
 
-  -- src/lib.rt:139:51
   part-walk-entries-end : lts.Need-part-walk-entries-end (claims t) (at t) reads.Post
   part-walk-entries-end c = search needs
 
-  -- src/lib.rt:139:61
   sub-walk-entries-2 : lts.Need-sub-walk-entries-2 (claims t) (at t) reads.Post
   sub-walk-entries-2 c = read-further _ _ _ _ (sym (c .before .before .before .before .read-step .ensures) ∙ c .before .before .step2 .given .1) .room-left
 
-  -- src/lib.rt:139:38
   walk-entries-requires : lts.Need-walk-entries-requires (claims t) (at t) reads.Post
   walk-entries-requires c κs = let h = read-further _ _ _ _ (sym (c .before .before .before .before .read-step .ensures) ∙ c .before .before .step2 .given .1) .room-left in search needs
 
-  -- src/lib.rt:131:1
   returns : lts.Need-returns (claims t) (at t) reads.Post
   returns c = read-end _ _ _ (sym (c .before .before .read-step .ensures) ∙ c .enum-told .given .1) _
 
-  -- src/lib.rt:131:1
   returns-2 : lts.Need-returns-2 (claims t) (at t) reads.Post
   returns-2 c = read-refused _ _ _ _ (sym (c .before .before .before .read-step .ensures) ∙ c .before .step .given .1) _
 
-  -- src/lib.rt:131:1
   returns-3 : lts.Need-returns-3 (claims t) (at t) reads.Post
   returns-3 c =
       let h = read-further _ _ _ _ (sym (c .before .before .before .before .before .read-step .ensures) ∙ c .before .before .before .step2 .given .1) in

@@ -1,10 +1,10 @@
-use Prim.Native.Nat.{_+_, _-_}
+-- `lists::walk_writes` meets its contract.
+use Prim.Native.Nat.{_+_, _-_, ℕ, _<_}
 use Rattle.wire.proofs.Laws.{part-from}
 use mathlib.Core.Path.{_≡_, sym, _∙_}
 use Rattle.lists.proofs.Laws.{write-end, write-refused, write-further}
 use native.Mathlib.Omega.{arith}
 use borrow.Author.Needs.{needs}
-use Prim.Native.Nat.{ℕ, _<_}
 use borrow.Fn.Kinds.{In}
 use borrow.Fn.PlainCycle.{Measures, is, falls, and}
 use Rattle.lists.proofs.walk_writes.Reads as reads
@@ -34,71 +34,54 @@ claims t = (
 )
 
 module _ (t : ℕ) where
-  -- src/lib.rt:178:9
   chunk-step-requires : lts.Need-chunk-step-requires (claims t) (at t) reads.Post
   chunk-step-requires c κs = search needs
 
-  -- src/lib.rt:180:42
   enum-told : lts.Need-enum-told (claims t) (at t) reads.Post
   enum-told c = search needs
 
-  -- src/lib.rt:180:42
   sub-t9 : lts.Need-sub-t9 (claims t) (at t) reads.Post
   sub-t9 c = search needs
 
-  -- src/lib.rt:180:63
   sub-t11 : lts.Need-sub-t11 (claims t) (at t) reads.Post
   sub-t11 c = write-end _ _ _ (sym (c .before .before .chunk-step .ensures) ∙ c .enum-told .given .1) .0
 
-  -- src/lib.rt:181:28
   enum-known-step : lts.Need-enum-known-step (claims t) (at t) reads.Post
   enum-known-step c = search needs
 
-  -- src/lib.rt:182:26
   enum-known-step-2 : lts.Need-enum-known-step-2 (claims t) (at t) reads.Post
   enum-known-step-2 c = search needs
 
-  -- src/lib.rt:183:27
   mul-end : lts.Need-mul-end (claims t) (at t) reads.Post
   mul-end c = let h = write-further _ _ _ _ (sym (c .before .before .before .chunk-step .ensures) ∙ c .before .step2 .given .1) .few in omega arith
 
-  -- src/lib.rt:183:23
   add-end : lts.Need-add-end (claims t) (at t) reads.Post
   add-end c = let h = write-further _ _ _ _ (sym (c .before .before .before .chunk-step .ensures) ∙ c .before .step2 .given .1) .few in omega arith
 
-  -- src/lib.rt:184:25
   sub-walk-writes : lts.Need-sub-walk-writes (claims t) (at t) reads.Post
   sub-walk-writes c = write-further _ _ _ _ (sym (c .before .before .before .chunk-step .ensures) ∙ c .before .step2 .given .1) .long
 
-  -- src/lib.rt:184:25
   part-walk-writes-start : lts.Need-part-walk-writes-start (claims t) (at t) reads.Post
   part-walk-writes-start c = write-further _ _ _ _ (sym (c .before .before .before .chunk-step .ensures) ∙ c .before .step2 .given .1) .long
 
-  -- src/lib.rt:184:25
   part-walk-writes-end : lts.Need-part-walk-writes-end (claims t) (at t) reads.Post
   part-walk-writes-end c = search needs
 
-  -- src/lib.rt:184:36
   sub-walk-writes-2 : lts.Need-sub-walk-writes-2 (claims t) (at t) reads.Post
   sub-walk-writes-2 c = write-further _ _ _ _ (sym (c .before .before .before .before .chunk-step .ensures) ∙ c .before .before .step2 .given .1) .room-left
 
-  -- src/lib.rt:184:46
   sub-walk-writes-3 : lts.Need-sub-walk-writes-3 (claims t) (at t) reads.Post
   sub-walk-writes-3 c = write-further _ _ _ _ (sym (c .before .before .before .before .chunk-step .ensures) ∙ c .before .before .step2 .given .1) .few
 
-  -- src/lib.rt:184:13
   walk-writes-requires : lts.Need-walk-writes-requires (claims t) (at t) reads.Post
   walk-writes-requires c κs = let h = write-further _ _ _ _ (sym (c .before .before .before .before .chunk-step .ensures) ∙ c .before .before .step2 .given .1) .room-left in search needs
 
-  -- src/lib.rt:174:1
   returns : lts.Need-returns (claims t) (at t) reads.Post
   returns c = write-end _ _ _ (sym (c .before .before .chunk-step .ensures) ∙ c .enum-told .given .1) .1 _
 
-  -- src/lib.rt:174:1
   returns-2 : lts.Need-returns-2 (claims t) (at t) reads.Post
   returns-2 c = write-refused _ _ _ _ (sym (c .before .before .before .chunk-step .ensures) ∙ c .before .step .given .1) _
 
-  -- src/lib.rt:174:1
   returns-3 : lts.Need-returns-3 (claims t) (at t) reads.Post
   returns-3 c =
       let h = write-further _ _ _ _ (sym (c .before .before .before .before .before .chunk-step .ensures) ∙ c .before .before .before .step2 .given .1) in

@@ -1,59 +1,44 @@
+-- `lists::count_step` meets its contract.
 use mathlib.Core.Path.{sym, _∙_}
 use Rattle.lists.proofs.Laws.{count-short, count-chunk}
-use native.Mathlib.Omega.{arith}
-use borrow.Author.Tests.{le-leb, lt-leb}
-use Rattle.lists.specs.Lists.{counted, segments}
+use borrow.Author.Tests.{lt-leb}
+use Rattle.lists.specs.Lists.{counted}
 use borrow.Author.Needs.{needs}
 use Rattle.lists.proofs.count_step.Statement.{statement}
 use Rattle.lists.proofs.count_step.Tie as tie
-use Rattle.lists.proofs.count_step.Reads as reads
-use Rattle.lists.proofs.count_step.Lts as lts
-use Rattle.wire.proofs.first_word.Reads as first-word-reads
-use Rattle.wire.proofs.refusal.Reads as refusal-reads
 
--- src/lib.rt:141:9
 first-word-requires : tie.Need-first-word-requires
 first-word-requires c κs = search needs
 
--- src/lib.rt:142:21
 enum-known-word : tie.Need-enum-known-word
 enum-known-word c = search needs
 
--- src/lib.rt:143:35
 enum-told : tie.Need-enum-told
 enum-told c = search needs
 
--- src/lib.rt:143:35
 refusal-requires : tie.Need-refusal-requires
 refusal-requires c κs = search needs
 
--- src/lib.rt:143:9
 returns : tie.Need-returns
 unfolding counted
 returns c = simp (← (c .before .before .before .first-word .ensures), c .refusal .ensures, c .before .enum-told .given .1)
 
--- src/lib.rt:145:13
 cast-n : tie.Need-cast-n
 cast-n c = search needs
 
--- src/lib.rt:147:9
 returns-2 : tie.Need-returns-2
 unfolding counted
 returns-2 c = simp (← (c .before .before .before .before .first-word .ensures), c .before .before .word .given .1, lt-leb _ _ (c .if1 .taken))
 
--- src/lib.rt:149:22
 mul-if2 : tie.Need-mul-if2
 mul-if2 c = search needs
 
--- src/lib.rt:149:18
 add-if2 : tie.Need-add-if2
 add-if2 c = search needs
 
--- src/lib.rt:150:9
 returns-3 : tie.Need-returns-3
 returns-3 c = sym (count-short _ _ _ (sym (c .before .before .before .before .before .first-word .ensures) ∙ c .before .before .before .word .given .1) (c .before .if1 .left) (c .if2 .taken))
 
--- src/lib.rt:137:1
 returns-4 : tie.Need-returns-4
 returns-4 c = sym (count-chunk _ _ _ (sym (c .before .before .before .before .before .first-word .ensures) ∙ c .before .before .before .word .given .1) (c .before .if1 .left) (c .if2 .left))
 

@@ -1,25 +1,17 @@
+-- `lists::fill_reads` meets its contract.
 use native.Mathlib.Nat.{zero-add}
-use lib.ListN.{getD}
-use Prim.Native.Nat.{_+_, _*_, _<_}
+use lib.ListN.{getD, length, take}
+use Prim.Native.Nat.{_+_, _*_, _<_, _≤_, _-_}
 use denote.Ref.{now}
 use Rattle.wire.proofs.Laws.{read-segment-drop}
-use Rattle.wire.specs.Wire.{readSegmentAt}
-use Rattle.lists.specs.Steps.{zeroReads}
-use Rattle.wire.specs.Wire.{zeroSegment, zeroReadSegment}
-use native.Mathlib.Omega.{arith}
+use Rattle.wire.specs.Wire.{readSegmentAt, zeroReadSegment, stored}
+use Rattle.lists.specs.Steps.{zeroReads, markedSegmentAt}
 use borrow.Author.Needs.{needs}
 use mathlib.Core.Path.{_≡_, sym, _∙_}
-use Prim.Native.Nat.{_≤_, _-_}
-use lib.ListN.{length, take, drop}
-use Rattle.lists.specs.Steps.{markedSegmentAt}
 use Rattle.lists.specs.Parsed.{each}
-use Rattle.wire.specs.Wire.{stored, segmentAt}
 use Rattle.lists.proofs.Items.{fill-none, fill-next, fill-all, item-at, length-each}
 use Rattle.lists.proofs.fill_reads.Statement.{statement}
 use Rattle.lists.proofs.fill_reads.Tie as tie
-use Rattle.lists.proofs.fill_reads.Reads as reads
-use Rattle.lists.proofs.fill_reads.Lts as lts
-use Rattle.wire.proofs.read_segment_at.Reads as read-segment-at-reads
 
 abbrev Inv-loop : tie.InvT-loop
 Inv-loop s n to₀ k₀ to k = (k ≤ n) × (to ≡ stored to₀ 0 (take k (each 24 markedSegmentAt n s)))
@@ -27,39 +19,30 @@ Inv-loop s n to₀ k₀ to k = (k ≤ n) × (to ≡ stored to₀ 0 (take k (each
 abbrev μ-loop : tie.MeasureT-loop
 μ-loop s n to₀ k₀ to k = n - k
 
--- src/lib.rt:203:5
 loop-holds : tie.Need-loop-holds Inv-loop μ-loop
 loop-holds c = (search needs, fill-none zeroReads (each 24 markedSegmentAt (c .before .args .n) (now (c .before .args .s))) 0)
 
--- src/lib.rt:204:42
 mul-read-segment-at : tie.Need-mul-read-segment-at Inv-loop μ-loop
 mul-read-segment-at c = search needs
 
--- src/lib.rt:204:42
 add-read-segment-at : tie.Need-add-read-segment-at Inv-loop μ-loop
 add-read-segment-at c = search needs
 
--- src/lib.rt:204:17
 read-segment-at-requires : tie.Need-read-segment-at-requires Inv-loop μ-loop
 read-segment-at-requires c κs = search needs
 
--- src/lib.rt:204:9
 mul-to : tie.Need-mul-to Inv-loop μ-loop
 mul-to c = search needs
 
--- src/lib.rt:204:9
 array-set-from-to : tie.Need-array-set-from-to Inv-loop μ-loop
 array-set-from-to c = search needs
 
--- src/lib.rt:203:9
 add-k : tie.Need-add-k Inv-loop μ-loop
 add-k c = search needs
 
--- src/lib.rt:203:5
 loop-less : tie.Need-loop-less Inv-loop μ-loop
 loop-less c = search needs
 
--- src/lib.rt:203:5
 loop-again : tie.Need-loop-again Inv-loop μ-loop
 loop-again c =
     let k = c .before .before .loop .k in
@@ -69,7 +52,6 @@ loop-again c =
     let stored-there = fill-next zeroReads (each 24 markedSegmentAt (c .before .before .before .before .args .n) (now (c .before .before .before .before .args .s))) (c .before .before .loop .to) 0 k (c .before .before .loop .inv .1) (c .read-segment-at .result) _ below (c .read-segment-at .ensures ∙ item) in
     (search needs, rw zero-add at stored-there)
 
--- src/lib.rt:190:1
 returns : tie.Need-returns Inv-loop μ-loop
 returns c = fill-all zeroReads (each 24 markedSegmentAt (c .before .before .before .args .n) (now (c .before .before .before .args .s))) (c .before .loop .to) 0 (c .before .loop .k) (c .before .loop .inv .1) (rw length-each (search needs))
 

@@ -1,18 +1,16 @@
+-- `lists::positions_number` meets its contract.
 use Rattle.wire.specs.declared.ReadSegment.{ReadSegment}
-use Rattle.wire.specs.Wire.{zeroSegment, zeroReadSegment}
-use lib.ListN.{length-take, drop-of-length-le}
+use Rattle.wire.specs.Wire.{zeroReadSegment}
+use lib.ListN.{length-take, drop-of-length-le, length, take, drop}
 use borrow.Author.Tests.{le-leb, lt-leb, eq-eqb, ne-eqb}
 use Rattle.lists.proofs.Items.{next-of}
 use native.Mathlib.Omega.{arith}
 use borrow.Author.Needs.{needs}
 use mathlib.Core.Path.{_≡_, refl, sym, _∙_}
 use Prim.Native.Nat.{_≤_, _-_}
-use lib.ListN.{length, take, drop}
 use Rattle.lists.specs.Lists.{positionsNumber}
 use Rattle.lists.proofs.positions_number.Statement.{statement}
 use Rattle.lists.proofs.positions_number.Tie as tie
-use Rattle.lists.proofs.positions_number.Reads as reads
-use Rattle.lists.proofs.positions_number.Lts as lts
 
 abbrev none : ReadSegment
 none = zeroReadSegment
@@ -23,19 +21,15 @@ Inv-loop n segments last₀ k₀ last k = (k ≤ n) × (positionsNumber 0 (take 
 abbrev μ-loop : tie.MeasureT-loop
 μ-loop n segments last₀ k₀ last k = n - k
 
--- src/lib.rt:246:5
 loop-holds : tie.Need-loop-holds Inv-loop μ-loop
 loop-holds c = (search needs, refl)
 
--- src/lib.rt:247:17
 mul-x : tie.Need-mul-x Inv-loop μ-loop
 mul-x c = search needs
 
--- src/lib.rt:247:17
 array-copy-out-x : tie.Need-array-copy-out-x Inv-loop μ-loop
 array-copy-out-x c = search needs
 
--- src/lib.rt:250:13
 returns : tie.Need-returns Inv-loop μ-loop
 unfolding positionsNumber
 returns c =
@@ -43,7 +37,6 @@ returns c =
     let next = next-of (c .before .before .before .before .args .t1) (c .before .before .before .loop .k) (c .before .before .before .before .args .n) none (c .before .before .loop-test .taken) (omega arith) in
     sym (c .before .before .before .loop .inv .1 ∙ rw (next, ne-eqb _ _ (c .if1 .taken)))
 
--- src/lib.rt:253:13
 returns-2 : tie.Need-returns-2 Inv-loop μ-loop
 unfolding positionsNumber
 returns-2 c =
@@ -51,15 +44,12 @@ returns-2 c =
     let next = next-of (c .before .before .before .before .before .args .t1) (c .before .before .before .before .loop .k) (c .before .before .before .before .before .args .n) none (c .before .before .before .loop-test .taken) (omega arith) in
     sym (c .before .before .before .before .loop .inv .1 ∙ rw (next, eq-eqb _ _ (c .before .if1 .left), lt-leb _ _ (c .if2 .taken)))
 
--- src/lib.rt:246:9
 add-k : tie.Need-add-k Inv-loop μ-loop
 add-k c = search needs
 
--- src/lib.rt:246:5
 loop-less : tie.Need-loop-less Inv-loop μ-loop
 loop-less c = search needs
 
--- src/lib.rt:246:5
 loop-again : tie.Need-loop-again Inv-loop μ-loop
 unfolding positionsNumber
 loop-again c =
@@ -67,7 +57,6 @@ loop-again c =
     let next = next-of (c .before .before .before .before .before .args .t1) (c .before .before .before .before .loop .k) (c .before .before .before .before .before .args .n) none (c .before .before .before .loop-test .taken) (omega arith) in
     (search needs, c .before .before .before .before .loop .inv .1 ∙ rw (next, eq-eqb _ _ (c .before .if1 .left), le-leb _ _ (c .if2 .left)))
 
--- src/lib.rt:241:1
 returns-3 : tie.Need-returns-3 Inv-loop μ-loop
 unfolding positionsNumber
 returns-3 c =

@@ -1,33 +1,26 @@
+-- `lists::read_entry` meets its contract.
 use Rattle.wire.specs.Wire.{readSegmentAt}
 use borrow.Author.Tests.{le-leb, lt-leb, eq-eqb, ne-eqb}
 use Rattle.lists.specs.Lists.{readEntry}
 use borrow.Author.Needs.{needs}
 use Rattle.lists.proofs.read_entry.Statement.{statement}
 use Rattle.lists.proofs.read_entry.Tie as tie
-use Rattle.lists.proofs.read_entry.Reads as reads
-use Rattle.lists.proofs.read_entry.Lts as lts
-use Rattle.wire.proofs.word_at.Reads as word-at-reads
 
--- src/lib.rt:94:9
 returns : tie.Need-returns
 unfolding readEntry
 returns c = simp (lt-leb _ _ (c .if1 .taken))
 
--- src/lib.rt:96:9
 word-at-requires : tie.Need-word-at-requires
 word-at-requires c κs = search needs
 
--- src/lib.rt:98:9
 returns-2 : tie.Need-returns-2
 unfolding readEntry
 returns-2 c = simp (le-leb _ _ (c .before .before .if1 .left), ← (c .before .word-at .ensures), ne-eqb _ _ (c .if2 .taken))
 
--- src/lib.rt:101:9
 returns-3 : tie.Need-returns-3
 unfolding readEntry
 returns-3 c = simp (le-leb _ _ (c .before .before .before .if1 .left), ← (c .before .before .word-at .ensures), eq-eqb _ _ (c .before .if2 .left), lt-leb _ _ (c .if3 .taken))
 
--- src/lib.rt:90:1
 returns-4 : tie.Need-returns-4
 unfolding readEntry readSegmentAt
 returns-4 c = simp (le-leb _ _ (c .before .before .before .if1 .left), ← (c .before .before .word-at .ensures), eq-eqb _ _ (c .before .if2 .left), le-leb _ _ (c .if3 .left))

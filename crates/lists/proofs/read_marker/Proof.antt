@@ -1,45 +1,34 @@
+-- `lists::read_marker` meets its contract.
 use borrow.Author.Tests.{eq-eqb, ne-eqb}
 use Rattle.lists.specs.Lists.{markerOf}
 use borrow.Author.Needs.{needs}
 use Rattle.lists.proofs.read_marker.Statement.{statement}
 use Rattle.lists.proofs.read_marker.Tie as tie
-use Rattle.lists.proofs.read_marker.Reads as reads
-use Rattle.lists.proofs.read_marker.Lts as lts
-use Rattle.wire.proofs.first_word.Reads as first-word-reads
-use Rattle.wire.proofs.refusal.Reads as refusal-reads
 
--- src/lib.rt:76:9
 first-word-requires : tie.Need-first-word-requires
 first-word-requires c κs = search needs
 
--- src/lib.rt:77:21
 enum-known-word : tie.Need-enum-known-word
 enum-known-word c = search needs
 
--- src/lib.rt:78:32
 enum-told : tie.Need-enum-told
 enum-told c = search needs
 
--- src/lib.rt:78:32
 refusal-requires : tie.Need-refusal-requires
 refusal-requires c κs = search needs
 
--- src/lib.rt:78:9
 returns : tie.Need-returns
 unfolding markerOf
 returns c = simp (← (c .before .before .before .first-word .ensures), c .refusal .ensures, c .before .enum-told .given .1)
 
--- src/lib.rt:81:9
 returns-2 : tie.Need-returns-2
 unfolding markerOf
 returns-2 c = simp (← (c .before .before .before .before .first-word .ensures), c .before .before .word .given .1, eq-eqb _ _ (c .if1 .taken))
 
--- src/lib.rt:84:9
 returns-3 : tie.Need-returns-3
 unfolding markerOf
 returns-3 c = simp (← (c .before .before .before .before .before .first-word .ensures), c .before .before .before .word .given .1, ne-eqb _ _ (c .before .if1 .left), eq-eqb _ _ (c .if2 .taken))
 
--- src/lib.rt:73:1
 returns-4 : tie.Need-returns-4
 unfolding markerOf
 returns-4 c = simp (← (c .before .before .before .before .before .first-word .ensures), c .before .before .before .word .given .1, ne-eqb _ _ (c .before .if1 .left), ne-eqb _ _ (c .if2 .left))

@@ -1,3 +1,4 @@
+-- `lists::read_step` meets its contract.
 use Rattle.wire.proofs.Laws.{part-from}
 use mathlib.Core.Path.{sym, _∙_}
 use Rattle.lists.proofs.Laws.{entry-room}
@@ -6,59 +7,43 @@ use Rattle.lists.specs.Steps.{readStep}
 use borrow.Author.Needs.{needs}
 use Rattle.lists.proofs.read_step.Statement.{statement}
 use Rattle.lists.proofs.read_step.Tie as tie
-use Rattle.lists.proofs.read_step.Reads as reads
-use Rattle.lists.proofs.read_step.Lts as lts
-use Rattle.lists.proofs.read_entry.Reads as read-entry-reads
-use Rattle.lists.proofs.read_marker.Reads as read-marker-reads
 
--- src/lib.rt:110:9
 read-marker-requires : tie.Need-read-marker-requires
 read-marker-requires c κs = search needs
 
--- src/lib.rt:112:24
 enum-told : tie.Need-enum-told
 enum-told c = search needs
 
--- src/lib.rt:113:25
 enum-known-marker : tie.Need-enum-known-marker
 enum-known-marker c = search needs
 
--- src/lib.rt:115:16
 enum-told-2 : tie.Need-enum-told-2
 enum-told-2 c = search needs
 
--- src/lib.rt:116:17
 returns : tie.Need-returns
 unfolding readStep
 returns c = simp (← (c .before .before .before .read-marker .ensures), c .before .enum-told2 .given .1, eq-eqb _ _ (c .if1 .taken))
 
--- src/lib.rt:118:24
 sub-read-entry : tie.Need-sub-read-entry
 sub-read-entry c = entry-room _ (sym (c .before .before .before .read-marker .ensures) ∙ c .before .enum-told2 .given .1)
 
--- src/lib.rt:118:24
 part-read-entry-start : tie.Need-part-read-entry-start
 part-read-entry-start c = entry-room _ (sym (c .before .before .before .read-marker .ensures) ∙ c .before .enum-told2 .given .1)
 
--- src/lib.rt:118:24
 part-read-entry-end : tie.Need-part-read-entry-end
 part-read-entry-end c = search needs
 
--- src/lib.rt:118:13
 read-entry-requires : tie.Need-read-entry-requires
 read-entry-requires c κs = search needs
 
--- src/lib.rt:107:1
 returns-2 : tie.Need-returns-2
 unfolding readStep
 returns-2 c = simp (← (c .before .before .read-marker .ensures), c .enum-told .given .1)
 
--- src/lib.rt:107:1
 returns-3 : tie.Need-returns-3
 unfolding readStep
 returns-3 c = simp (← (c .before .before .before .read-marker .ensures), c .before .marker .given .1)
 
--- src/lib.rt:107:1
 returns-4 : tie.Need-returns-4
 unfolding readStep
 returns-4 c = simp (← (c .before .before .before .before .before .read-marker .ensures), c .before .before .before .enum-told2 .given .1, ne-eqb _ _ (c .before .before .if1 .left)) (c .read-entry .ensures ∙ simp part-from)

@@ -1,39 +1,29 @@
+-- `lists::walk_reads` meets its contract.
 use Rattle.lists.proofs.Found.{packed-refused, packed-done}
 use native.Mathlib.Omega.{arith}
 use denote.Ref.{now}
-use mathlib.Core.Path.{_≡_, sym, _∙_}
 use borrow.Author.Needs.{needs}
 use Rattle.lists.proofs.walk_reads.Statement.{statement}
 use Rattle.lists.proofs.walk_reads.Tie as tie
-use Rattle.lists.proofs.walk_reads.Reads as reads
-use Rattle.lists.proofs.walk_reads.Lts as lts
-use Rattle.lists.proofs.walk_entries.Reads as walk-entries-reads
 
--- src/lib.rt:147:9
 walk-entries-requires : tie.Need-walk-entries-requires
 walk-entries-requires c κs = search needs
 
--- src/lib.rt:149:34
 cast-t5 : tie.Need-cast-t5
 cast-t5 c = let h = packed-refused (now (c .before .before .before .args .s)) (c .before .walk-entries .result) (c .before .walk-entries .ensures) (c .if1 .taken) .0 in omega arith
 
--- src/lib.rt:149:9
 returns : tie.Need-returns
 returns c = packed-refused (now (c .before .before .before .args .s)) (c .before .walk-entries .result) (c .before .walk-entries .ensures) (c .if1 .taken) .1
 
--- src/lib.rt:151:28
 sub-t7 : tie.Need-sub-t7
 sub-t7 c = let h = packed-done (now (c .before .before .before .args .s)) (c .before .walk-entries .result) (c .before .walk-entries .ensures) (c .if1 .left) .0 in omega arith
 
--- src/lib.rt:151:42
 mul-t8 : tie.Need-mul-t8
 mul-t8 c = search needs
 
--- src/lib.rt:151:28
 sub-t9 : tie.Need-sub-t9
 sub-t9 c = let h = packed-done (now (c .before .before .before .args .s)) (c .before .walk-entries .result) (c .before .walk-entries .ensures) (c .if1 .left) .0 in omega arith
 
--- src/lib.rt:144:1
 returns-2 : tie.Need-returns-2
 returns-2 c = packed-done (now (c .before .before .before .args .s)) (c .before .walk-entries .result) (c .before .walk-entries .ensures) (c .if1 .left) .1
 

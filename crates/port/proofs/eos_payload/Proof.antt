@@ -1,3 +1,4 @@
+-- `port::eos_payload` meets its contract.
 use Rattle.header.proofs.Lies.{payload-short}
 use denote.Ref.{now}
 use borrow.Author.Tests.{eq-eqb, ne-eqb}
@@ -5,24 +6,17 @@ use Rattle.port.specs.Flat.{partOf}
 use borrow.Author.Needs.{needs}
 use Rattle.port.proofs.eos_payload.Statement.{statement}
 use Rattle.port.proofs.eos_payload.Tie as tie
-use Rattle.port.proofs.eos_payload.Reads as reads
-use Rattle.port.proofs.eos_payload.Lts as lts
-use Rattle.header.proofs.payload.Reads as payload-reads
 
--- src/lib.rt:156:9
 payload-requires : tie.Need-payload-requires
 payload-requires c κs = search needs
 
--- src/lib.rt:159:9
 returns : tie.Need-returns
 unfolding partOf
 returns c = rw (← (c .before .payload .ensures), eq-eqb _ _ (c .if1 .taken))
 
--- src/lib.rt:162:17
 sub-t6 : tie.Need-sub-t6
 sub-t6 c = rw (c .before .payload .ensures) (payload-short (now (c .before .before .before .args .frame)))
 
--- src/lib.rt:152:1
 returns-2 : tie.Need-returns-2
 unfolding partOf
 returns-2 c = rw (← (c .before .payload .ensures), ne-eqb _ _ (c .if1 .left))

@@ -1,22 +1,17 @@
+-- `wire::first_word` meets its contract.
 use borrow.Author.Tests.{le-leb, lt-leb}
 use Rattle.wire.specs.Wire.{wordOf}
 use borrow.Author.Needs.{needs}
 use Rattle.wire.proofs.first_word.Statement.{statement}
 use Rattle.wire.proofs.first_word.Tie as tie
-use Rattle.wire.proofs.first_word.Reads as reads
-use Rattle.wire.proofs.first_word.Lts as lts
-use Rattle.wire.proofs.word_at.Reads as word-at-reads
 
--- src/lib.rt:65:9
 returns : tie.Need-returns
 unfolding wordOf
 returns c = simp (lt-leb _ _ (c .if1 .taken))
 
--- src/lib.rt:67:17
 word-at-requires : tie.Need-word-at-requires
 word-at-requires c κs = search needs
 
--- src/lib.rt:61:1
 returns-2 : tie.Need-returns-2
 unfolding wordOf
 returns-2 c = simp (le-leb _ _ (c .before .if1 .left), c .word-at .ensures)

@@ -1,54 +1,41 @@
+-- `wire::put_segment` meets its contract.
 use mathlib.Core.Path.{refl}
 use Rattle.wire.proofs.Laws.{then}
 use Rattle.wire.specs.Wire.{segmentBytes, wordBytes}
 use borrow.Author.Needs.{needs}
 use Rattle.wire.proofs.put_segment.Statement.{statement}
 use Rattle.wire.proofs.put_segment.Tie as tie
-use Rattle.wire.proofs.put_segment.Reads as reads
-use Rattle.wire.proofs.put_segment.Lts as lts
-use Rattle.wire.proofs.put_word.Reads as put-word-reads
 
--- src/lib.rt:109:5
 put-word-requires : tie.Need-put-word-requires
 put-word-requires c κs = search needs
 
--- src/lib.rt:110:19
 add-put-word : tie.Need-add-put-word
 add-put-word c = search needs
 
--- src/lib.rt:110:5
 put-word-requires-2 : tie.Need-put-word-requires-2
 put-word-requires-2 c κs = search needs
 
--- src/lib.rt:111:19
 add-put-word-2 : tie.Need-add-put-word-2
 add-put-word-2 c = search needs
 
--- src/lib.rt:111:26
 cast-put-word : tie.Need-cast-put-word
 cast-put-word c = search needs
 
--- src/lib.rt:111:5
 put-word-requires-3 : tie.Need-put-word-requires-3
 put-word-requires-3 c κs = search needs
 
--- src/lib.rt:112:19
 add-put-word-3 : tie.Need-add-put-word-3
 add-put-word-3 c = search needs
 
--- src/lib.rt:112:27
 cast-put-word-2 : tie.Need-cast-put-word-2
 cast-put-word-2 c = search needs
 
--- src/lib.rt:112:5
 put-word-requires-4 : tie.Need-put-word-requires-4
 put-word-requires-4 c κs = search needs
 
--- src/lib.rt:105:1
 same-length : tie.Need-same-length
 same-length c = search needs
 
--- src/lib.rt:105:1
 returns : tie.Need-returns
 unfolding segmentBytes wordBytes
 returns c =

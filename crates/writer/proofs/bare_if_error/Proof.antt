@@ -1,37 +1,30 @@
+-- `writer::bare_if_error` meets its contract.
 use borrow.Author.Tests.{eq-eqb, ne-eqb}
 use borrow.Author.Needs.{needs}
 use Rattle.writer.proofs.bare_if_error.Statement.{statement}
 use Rattle.writer.proofs.bare_if_error.Tie as tie
 
--- src/lib.rt:39:22
 enum-told : tie.Need-enum-told
 enum-told c = search needs
 
--- src/lib.rt:40:24
 enum-told-2 : tie.Need-enum-told-2
 enum-told-2 c = search needs
 
--- src/lib.rt:42:16
 enum-told-3 : tie.Need-enum-told-3
 enum-told-3 c = search needs
 
--- src/lib.rt:43:17
 returns : tie.Need-returns
 returns c = simp (c .before .enum-told3 .given .1, ne-eqb _ _ (c .if1 .taken))
 
--- src/lib.rt:46:17
 returns-2 : tie.Need-returns-2
 returns-2 c = simp (c .before .before .enum-told3 .given .1, eq-eqb _ _ (c .before .if1 .left), ne-eqb _ _ (c .if2 .taken))
 
--- src/lib.rt:35:1
 returns-3 : tie.Need-returns-3
 returns-3 c = search needs
 
--- src/lib.rt:35:1
 returns-4 : tie.Need-returns-4
 returns-4 c = search needs
 
--- src/lib.rt:35:1
 returns-5 : tie.Need-returns-5
 returns-5 c = simp (c .before .before .enum-told3 .given .1, eq-eqb _ _ (c .before .if1 .left), eq-eqb _ _ (c .if2 .left))
 

@@ -1,23 +1,20 @@
+-- `writer::error_length` meets its contract.
 use borrow.Author.Needs.{needs}
 use Rattle.wire.specs.Wire.{wordBytes}
 use Rattle.writer.specs.Bytes.{errorBytes}
 use Rattle.writer.proofs.error_length.Statement.{statement}
 use Rattle.writer.proofs.error_length.Tie as tie
 
--- src/lib.rt:108:37
 enum-told : tie.Need-enum-told
 enum-told c = search needs
 
--- src/lib.rt:109:29
 enum-told-2 : tie.Need-enum-told-2
 enum-told-2 c = search needs
 
--- src/lib.rt:104:1
 returns : tie.Need-returns
 unfolding errorBytes wordBytes
 returns c = simp (c .enum-told .given .1)
 
--- src/lib.rt:104:1
 returns-2 : tie.Need-returns-2
 unfolding errorBytes wordBytes
 returns-2 c = simp (c .enum-told2 .given .1)

@@ -1,3 +1,4 @@
+-- `writer::header_length` meets its contract.
 use mathlib.Core.Path.{ap}
 use Prim.Native.Nat.{_+_}
 use native.Mathlib.Omega.{arith}
@@ -6,43 +7,34 @@ use Rattle.writer.proofs.Laws.{reply-within, error-within, not-error}
 use Rattle.writer.proofs.header_length.Statement.{statement}
 use Rattle.writer.proofs.header_length.Tie as tie
 
--- src/lib.rt:125:21
 enum-known-kind : tie.Need-enum-known-kind
 enum-known-kind c = search needs
 
--- src/lib.rt:126:24
 total-count-requires : tie.Need-total-count-requires
 total-count-requires c κs = search needs
 
--- src/lib.rt:127:59
 reply-length-requires : tie.Need-reply-length-requires
 reply-length-requires c κs = search needs
 
--- src/lib.rt:127:21
 lists-length-requires : tie.Need-lists-length-requires
 lists-length-requires c κs =
     let small = reply-within (c .before .before .before .args .present) (c .before .before .before .args .replies) (omega arith) in
     search needs
 
--- src/lib.rt:127:16
 add-result : tie.Need-add-result
 add-result c =
     let small = reply-within (c .before .before .before .before .args .present) (c .before .before .before .before .args .replies) (omega arith) in
     search needs
 
--- src/lib.rt:127:9
 returns : tie.Need-returns
 returns c = λ parts e. rw (not-error (c .before .before .before .before .args .kind) (c .before .before .before .match .keys2) parts) (omega arith)
 
--- src/lib.rt:129:10
 error-length-requires : tie.Need-error-length-requires
 error-length-requires c κs = search needs
 
--- src/lib.rt:129:5
 add-result-2 : tie.Need-add-result-2
 add-result-2 c = let small = error-within (c .before .before .kind .given .0 .0) in search needs
 
--- src/lib.rt:114:1
 returns-2 : tie.Need-returns-2
 returns-2 c = λ parts e. rw (c .before .before .kind .given .1) (ap (λ n. 16 + n) (c .error-length .ensures))
 

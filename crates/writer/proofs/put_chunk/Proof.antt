@@ -1,3 +1,4 @@
+-- `writer::put_chunk` meets its contract.
 use mathlib.Core.Path.{_≡_, refl}
 use native.Mathlib.Omega.{arith}
 use lib.ListN.{length, take, drop, length-drop}
@@ -9,35 +10,27 @@ use Rattle.writer.specs.Bytes.{chunkBytes, countedBytes}
 use Rattle.writer.proofs.put_chunk.Statement.{statement}
 use Rattle.writer.proofs.put_chunk.Tie as tie
 
--- src/lib.rt:192:5
 put-word-requires : tie.Need-put-word-requires
 put-word-requires c κs = search needs
 
--- src/lib.rt:193:25
 add-put-word : tie.Need-add-put-word
 add-put-word c = search needs
 
--- src/lib.rt:193:32
 cast-put-word : tie.Need-cast-put-word
 cast-put-word c = search needs
 
--- src/lib.rt:193:5
 put-word-requires-2 : tie.Need-put-word-requires-2
 put-word-requires-2 c κs = search needs
 
--- src/lib.rt:194:23
 add-put-segments : tie.Need-add-put-segments
 add-put-segments c = search needs
 
--- src/lib.rt:194:5
 put-segments-requires : tie.Need-put-segments-requires
 put-segments-requires c κs = search needs
 
--- src/lib.rt:188:1
 same-length : tie.Need-same-length
 same-length c = search needs
 
--- src/lib.rt:188:1
 returns : tie.Need-returns
 unfolding chunkBytes countedBytes wordBytes
 returns c =

@@ -1,3 +1,4 @@
+-- `writer::put_error` meets its contract.
 use mathlib.Core.Path.{refl}
 use native.Mathlib.Omega.{arith}
 use borrow.Author.Needs.{needs}
@@ -7,64 +8,50 @@ use Rattle.writer.specs.Bytes.{errorBytes}
 use Rattle.writer.proofs.put_error.Statement.{statement}
 use Rattle.writer.proofs.put_error.Tie as tie
 
--- src/lib.rt:252:28
 enum-known-e : tie.Need-enum-known-e
 enum-known-e c = search needs
 
--- src/lib.rt:253:13
 put-word-requires : tie.Need-put-word-requires
 unfolding errorBytes wordBytes
 put-word-requires c κs = let h = simp (c .before .before .e .given .1) at (c .before .before .before .before .before .pre) in omega arith
 
--- src/lib.rt:254:33
 add-put-word : tie.Need-add-put-word
 add-put-word c = search needs
 
--- src/lib.rt:254:13
 put-word-requires-2 : tie.Need-put-word-requires-2
 unfolding errorBytes wordBytes
 put-word-requires-2 c κs = let h = simp (c .before .before .before .before .before .before .e .given .1) at (c .before .before .before .before .before .before .before .before .before .pre) in omega arith
 
--- src/lib.rt:255:33
 add-put-word-2 : tie.Need-add-put-word-2
 add-put-word-2 c = search needs
 
--- src/lib.rt:255:13
 put-word-requires-3 : tie.Need-put-word-requires-3
 unfolding errorBytes wordBytes
 put-word-requires-3 c κs = let h = simp (c .before .before .before .before .before .before .before .before .before .before .e .given .1) at (c .before .before .before .before .before .before .before .before .before .before .before .before .before .pre) in omega arith
 
--- src/lib.rt:256:13
 add-result : tie.Need-add-result
 add-result c = search needs
 
--- src/lib.rt:259:28
 enum-told : tie.Need-enum-told
 enum-told c = search needs
 
--- src/lib.rt:259:13
 put-word-requires-4 : tie.Need-put-word-requires-4
 unfolding errorBytes wordBytes
 put-word-requires-4 c κs = let h = simp (c .before .enum-told .given .1) at (c .before .before .before .before .pre) in omega arith
 
--- src/lib.rt:260:13
 add-result-2 : tie.Need-add-result-2
 add-result-2 c = search needs
 
--- src/lib.rt:247:1
 same-length : tie.Need-same-length
 same-length c = search needs
 
--- src/lib.rt:247:1
 returns : tie.Need-returns
 unfolding errorBytes wordBytes
 returns c = rw (c .before .before .before .before .before .before .before .before .before .before .before .before .before .e .given .1) (refl, then _ _ _ _ _ _ _ (then _ _ _ _ _ _ _ (c .before .before .before .before .before .before .before .before .before .before .put-word .ensures) (c .before .before .before .before .before .before .put-word2 .ensures) refl) (c .before .before .put-word3 .ensures) refl)
 
--- src/lib.rt:247:1
 same-length-2 : tie.Need-same-length-2
 same-length-2 c = search needs
 
--- src/lib.rt:247:1
 returns-2 : tie.Need-returns-2
 unfolding errorBytes wordBytes
 returns-2 c = rw (c .before .before .before .before .enum-told .given .1) (refl, c .before .before .put-word4 .ensures)

@@ -1,3 +1,4 @@
+-- `writer::put_fixed` meets its contract.
 use mathlib.Core.Path.{refl}
 use borrow.Author.Needs.{needs}
 use Rattle.wire.specs.Wire.{wordBytes}
@@ -6,31 +7,24 @@ use Rattle.writer.specs.Bytes.{fixedBytes}
 use Rattle.writer.proofs.put_fixed.Statement.{statement}
 use Rattle.writer.proofs.put_fixed.Tie as tie
 
--- src/lib.rt:280:5
 put-word-requires : tie.Need-put-word-requires
 put-word-requires c κs = search needs
 
--- src/lib.rt:281:5
 put-word-requires-2 : tie.Need-put-word-requires-2
 put-word-requires-2 c κs = search needs
 
--- src/lib.rt:282:5
 put-word-requires-3 : tie.Need-put-word-requires-3
 put-word-requires-3 c κs = search needs
 
--- src/lib.rt:283:29
 procedure-of-requires : tie.Need-procedure-of-requires
 procedure-of-requires c κs = search needs
 
--- src/lib.rt:283:5
 put-word-requires-4 : tie.Need-put-word-requires-4
 put-word-requires-4 c κs = search needs
 
--- src/lib.rt:276:1
 same-length : tie.Need-same-length
 same-length c = search needs
 
--- src/lib.rt:276:1
 returns : tie.Need-returns
 unfolding fixedBytes wordBytes
 returns c =

@@ -1,3 +1,4 @@
+-- `writer::put_lists` meets its contract.
 use native.Mathlib.Omega.{arith}
 use borrow.Author.Needs.{needs}
 use Rattle.wire.proofs.Laws.{then}
@@ -9,52 +10,42 @@ use Rattle.writer.proofs.put_lists.Tie as tie
 known : (c : tie.Start) → Passed (c .args .reads) (c .args .writes) (c .args .reply)
 known c = passed (c .args .reads) (c .args .writes) (c .args .reply) _ _ _ (c .good .1 .0) (c .good .1 .1 .0) (c .good .1 .1 .1 .0) (c .pre .0)
 
--- src/lib.rt:292:13
 cast-n : tie.Need-cast-n
 cast-n c = search needs
 
--- src/lib.rt:293:5
 put-reads-requires : tie.Need-put-reads-requires
 put-reads-requires c κs =
     let k = known (c .before .before .before .before) in
     let size = parts-length (c .before .before .before .before .args .reads) (c .before .before .before .before .args .writes) (c .before .before .before .before .args .reply) k in
     search needs
 
--- src/lib.rt:296:36
 mul-put-writes : tie.Need-mul-put-writes
 mul-put-writes c = search needs
 
--- src/lib.rt:296:31
 add-put-writes : tie.Need-add-put-writes
 add-put-writes c = search needs
 
--- src/lib.rt:296:60
 cast-put-writes : tie.Need-cast-put-writes
 cast-put-writes c = search needs
 
--- src/lib.rt:296:9
 put-writes-requires : tie.Need-put-writes-requires
 put-writes-requires c κs =
     let k = known (c .before .before .before .before .before .before .before .before .before .before .before) in
     let size = parts-length (c .before .before .before .before .before .before .before .before .before .before .before .args .reads) (c .before .before .before .before .before .before .before .before .before .before .before .args .writes) (c .before .before .before .before .before .before .before .before .before .before .before .args .reply) k in
     search needs
 
--- src/lib.rt:298:49
 cast-put-reply : tie.Need-cast-put-reply
 cast-put-reply c = search needs
 
--- src/lib.rt:298:5
 put-reply-requires : tie.Need-put-reply-requires
 put-reply-requires c κs =
     let k = known (c .before .before .before .before .before .before .before .before .before .before .before .before .before .before .before .before .before) in
     let size = parts-length (c .before .before .before .before .before .before .before .before .before .before .before .before .before .before .before .before .before .args .reads) (c .before .before .before .before .before .before .before .before .before .before .before .before .before .before .before .before .before .args .writes) (c .before .before .before .before .before .before .before .before .before .before .before .before .before .before .before .before .before .args .reply) k in
     search needs
 
--- src/lib.rt:287:1
 same-length : tie.Need-same-length
 same-length c = search needs
 
--- src/lib.rt:287:1
 returns : tie.Need-returns
 returns c =
     let k = known (c .before .before .before .before .before .before .before .before .before .before .before .before .before .before .before .before .before .before .before .before) in

@@ -1,11 +1,11 @@
+-- `writer::put_reads` meets its contract.
 use mathlib.Core.Path.{_≡_, refl}
 use Prim.Native.Nat.{_+_, _*_, _≤_, _-_}
 use native.Mathlib.Omega.{arith}
 use lib.ListN.{length, take}
 use borrow.Author.Needs.{needs}
-use Rattle.wire.specs.Wire.{wordBytes, stored, joined}
+use Rattle.wire.specs.Wire.{wordBytes, stored, joined, zeroSegment}
 use Rattle.wire.proofs.Laws.{then}
-use Rattle.wire.specs.Wire.{zeroSegment}
 use Rattle.writer.specs.Bytes.{entryBytes, readListBytes}
 use Rattle.writer.proofs.Laws.{joined-next, joined-take-length, entry-length}
 use Rattle.writer.proofs.put_reads.Statement.{statement}
@@ -17,56 +17,43 @@ Inv-loop out₀ k n segments j₀ out j = (j ≤ n) × (length out ≡ length ou
 abbrev μ-loop : tie.MeasureT-loop
 μ-loop out₀ k n segments j₀ out j = n - j
 
--- src/lib.rt:202:5
 loop-holds : tie.Need-loop-holds Inv-loop μ-loop
 unfolding stored joined
 loop-holds c = (search needs, refl, refl)
 
--- src/lib.rt:203:17
 mul-x : tie.Need-mul-x Inv-loop μ-loop
 mul-x c = search needs
 
--- src/lib.rt:203:17
 array-copy-out-x : tie.Need-array-copy-out-x Inv-loop μ-loop
 array-copy-out-x c = search needs
 
--- src/lib.rt:204:33
 mul-put-word : tie.Need-mul-put-word Inv-loop μ-loop
 mul-put-word c = search needs
 
--- src/lib.rt:204:29
 add-put-word : tie.Need-add-put-word Inv-loop μ-loop
 add-put-word c = search needs
 
--- src/lib.rt:204:9
 put-word-requires : tie.Need-put-word-requires Inv-loop μ-loop
 put-word-requires c κs = search needs
 
--- src/lib.rt:205:41
 mul-put-read-segment : tie.Need-mul-put-read-segment Inv-loop μ-loop
 mul-put-read-segment c = search needs
 
--- src/lib.rt:205:37
 add-put-read-segment : tie.Need-add-put-read-segment Inv-loop μ-loop
 add-put-read-segment c = search needs
 
--- src/lib.rt:205:37
 add-put-read-segment-2 : tie.Need-add-put-read-segment-2 Inv-loop μ-loop
 add-put-read-segment-2 c = search needs
 
--- src/lib.rt:205:9
 put-read-segment-requires : tie.Need-put-read-segment-requires Inv-loop μ-loop
 put-read-segment-requires c κs = search needs
 
--- src/lib.rt:202:9
 add-j : tie.Need-add-j Inv-loop μ-loop
 add-j c = search needs
 
--- src/lib.rt:202:5
 loop-less : tie.Need-loop-less Inv-loop μ-loop
 loop-less c = search needs
 
--- src/lib.rt:202:5
 loop-again : tie.Need-loop-again Inv-loop μ-loop
 unfolding entryBytes wordBytes
 loop-again c =
@@ -75,23 +62,18 @@ loop-again c =
     rw (joined-take-length entryBytes 24 entry-length (c .before .before .before .before .before .before .before .before .before .before .before .before .args .t3) (c .before .before .before .before .before .before .before .before .before .before .loop .j) (omega arith)) in
     (search needs, search needs, rw (joined-next entryBytes (c .before .before .before .before .before .before .before .before .before .before .before .before .args .t3) (c .before .before .before .before .before .before .before .before .before .before .loop .j) (record { position = 0; target = zeroSegment }) (omega arith)) (then _ _ _ _ _ _ _ (c .before .before .before .before .before .before .before .before .before .before .loop .inv .2) (then _ _ _ _ _ _ _ (c .before .before .before .before .before .before .put-word .ensures) (c .before .before .put-read-segment .ensures) refl) place))
 
--- src/lib.rt:207:29
 mul-put-word-2 : tie.Need-mul-put-word-2 Inv-loop μ-loop
 mul-put-word-2 c = search needs
 
--- src/lib.rt:207:25
 add-put-word-2 : tie.Need-add-put-word-2 Inv-loop μ-loop
 add-put-word-2 c = search needs
 
--- src/lib.rt:207:5
 put-word-requires-2 : tie.Need-put-word-requires-2 Inv-loop μ-loop
 put-word-requires-2 c κs = search needs
 
--- src/lib.rt:198:1
 same-length : tie.Need-same-length Inv-loop μ-loop
 same-length c = search needs
 
--- src/lib.rt:198:1
 returns : tie.Need-returns Inv-loop μ-loop
 unfolding readListBytes
 returns c =

@@ -1,3 +1,4 @@
+-- `writer::put_reply` meets its contract.
 use mathlib.Core.Path.{refl}
 use native.Mathlib.Omega.{arith}
 use borrow.Author.Needs.{needs}
@@ -5,44 +6,34 @@ use Rattle.writer.specs.Bytes.{replyBytes}
 use Rattle.writer.proofs.put_reply.Statement.{statement}
 use Rattle.writer.proofs.put_reply.Tie as tie
 
--- src/lib.rt:239:9
 put-chunk-requires : tie.Need-put-chunk-requires
 put-chunk-requires c κs = let h = simp (c .before .if1 .taken) at (c .before .before .before .pre .1) in search needs
 
--- src/lib.rt:240:16
 add-result : tie.Need-add-result
 add-result c = search needs
 
--- src/lib.rt:240:24
 mul-result : tie.Need-mul-result
 mul-result c = search needs
 
--- src/lib.rt:240:16
 add-result-2 : tie.Need-add-result-2
 add-result-2 c = search needs
 
--- src/lib.rt:240:9
 same-length : tie.Need-same-length
 same-length c = search needs
 
--- src/lib.rt:240:9
 returns : tie.Need-returns
 unfolding replyBytes
 returns c = rw (c .before .before .before .before .if1 .taken) (omega arith, c .before .before .put-chunk .ensures)
 
--- src/lib.rt:242:5
 put-word-requires : tie.Need-put-word-requires
 put-word-requires c κs = let h = simp (c .before .if1 .left) at (c .before .before .before .pre .1) in search needs
 
--- src/lib.rt:243:5
 add-result-3 : tie.Need-add-result-3
 add-result-3 c = search needs
 
--- src/lib.rt:234:1
 same-length-2 : tie.Need-same-length-2
 same-length-2 c = search needs
 
--- src/lib.rt:234:1
 returns-2 : tie.Need-returns-2
 unfolding replyBytes
 returns-2 c = rw (c .before .before .before .before .if1 .left) (refl, c .before .before .put-word .ensures)

@@ -1,12 +1,12 @@
+-- `writer::put_segments` meets its contract.
 use mathlib.Core.Path.{_≡_, refl}
 use Prim.Native.Nat.{_+_, _*_, _<_, _≤_, _-_}
 use native.Mathlib.Omega.{arith}
 use lib.Seq.{getD-drop}
 use lib.ListN.{length-drop, length, take, drop}
 use borrow.Author.Needs.{needs}
-use Rattle.wire.specs.Wire.{stored, joined, segmentBytes}
+use Rattle.wire.specs.Wire.{stored, joined, segmentBytes, zeroSegment}
 use Rattle.wire.proofs.Laws.{then}
-use Rattle.wire.specs.Wire.{zeroSegment}
 use Rattle.writer.proofs.Laws.{joined-next, joined-take-length, segment-length}
 use Rattle.writer.proofs.put_segments.Statement.{statement}
 use Rattle.writer.proofs.put_segments.Tie as tie
@@ -17,44 +17,34 @@ Inv-loop out₀ k i n segments j₀ out j = (j ≤ n) × (length out ≡ length 
 abbrev μ-loop : tie.MeasureT-loop
 μ-loop out₀ k i n segments j₀ out j = n - j
 
--- src/lib.rt:181:5
 loop-holds : tie.Need-loop-holds Inv-loop μ-loop
 unfolding stored joined
 loop-holds c = (search needs, refl, refl)
 
--- src/lib.rt:182:26
 add-x : tie.Need-add-x Inv-loop μ-loop
 add-x c = search needs
 
--- src/lib.rt:182:17
 mul-x : tie.Need-mul-x Inv-loop μ-loop
 mul-x c = search needs
 
--- src/lib.rt:182:17
 array-copy-out-x : tie.Need-array-copy-out-x Inv-loop μ-loop
 array-copy-out-x c = search needs
 
--- src/lib.rt:183:36
 mul-put-segment : tie.Need-mul-put-segment Inv-loop μ-loop
 mul-put-segment c = search needs
 
--- src/lib.rt:183:32
 add-put-segment : tie.Need-add-put-segment Inv-loop μ-loop
 add-put-segment c = search needs
 
--- src/lib.rt:183:9
 put-segment-requires : tie.Need-put-segment-requires Inv-loop μ-loop
 put-segment-requires c κs = search needs
 
--- src/lib.rt:181:9
 add-j : tie.Need-add-j Inv-loop μ-loop
 add-j c = search needs
 
--- src/lib.rt:181:5
 loop-less : tie.Need-loop-less Inv-loop μ-loop
 loop-less c = search needs
 
--- src/lib.rt:181:5
 loop-again : tie.Need-loop-again Inv-loop μ-loop
 loop-again c =
     let full : length (c .before .before .before .before .before .before .before .before .args .t3) ≡ 16 = search needs in
@@ -63,11 +53,9 @@ loop-again c =
     rw (joined-take-length segmentBytes 16 segment-length (drop (c .before .before .before .before .before .before .before .before .args .i) (c .before .before .before .before .before .before .before .before .args .t3)) (c .before .before .before .before .before .before .loop .j) (omega arith)) in
     (search needs, search needs, rw (joined-next segmentBytes (drop (c .before .before .before .before .before .before .before .before .args .i) (c .before .before .before .before .before .before .before .before .args .t3)) (c .before .before .before .before .before .before .loop .j) zeroSegment below, getD-drop (c .before .before .before .before .before .before .before .before .args .i) (c .before .before .before .before .before .before .before .before .args .t3) (c .before .before .before .before .before .before .loop .j) zeroSegment) (then _ _ _ _ _ _ _ (c .before .before .before .before .before .before .loop .inv .2) (c .before .before .put-segment .ensures) place))
 
--- src/lib.rt:177:1
 same-length : tie.Need-same-length Inv-loop μ-loop
 same-length c = search needs
 
--- src/lib.rt:177:1
 returns : tie.Need-returns Inv-loop μ-loop
 returns c = let e : c .before .loop .j ≡ c .before .before .before .args .n = omega arith in rw (← e) (c .before .loop .inv .2)
 

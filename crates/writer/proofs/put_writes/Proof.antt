@@ -1,3 +1,4 @@
+-- `writer::put_writes` meets its contract.
 use mathlib.Core.Path.{_≡_, refl}
 use Prim.Native.Nat.{_+_, _*_, _≤_, _-_}
 use native.Mathlib.Omega.{arith}
@@ -33,52 +34,40 @@ place c h =
     let whole : length (c .before .before .args .segments) ≡ 16 = search needs in
     rw (chunks-length (take (c .loop .j) (c .before .before .args .t4)) (c .before .before .args .segments) (omega arith), length-take-le (c .loop .j) (c .before .before .args .t4) (omega arith)) (omega arith)
 
--- src/lib.rt:223:5
 loop-holds : tie.Need-loop-holds Inv-loop μ-loop
 unfolding stored joined runs total
 loop-holds c = (search needs, refl, refl, omega arith, refl)
 
--- src/lib.rt:224:17
 mul-d : tie.Need-mul-d Inv-loop μ-loop
 mul-d c = search needs
 
--- src/lib.rt:224:17
 array-read-d : tie.Need-array-read-d Inv-loop μ-loop
 array-read-d c = search needs
 
--- src/lib.rt:224:17
 cast-d : tie.Need-cast-d Inv-loop μ-loop
 cast-d c = search needs
 
--- src/lib.rt:225:9
 put-chunk-requires : tie.Need-put-chunk-requires Inv-loop μ-loop
 put-chunk-requires c κs = let h = few (c .before) in search needs
 
--- src/lib.rt:226:20
 mul-end : tie.Need-mul-end Inv-loop μ-loop
 mul-end c = let h = few (c .before .before .before .before) in omega arith
 
--- src/lib.rt:226:16
 add-end : tie.Need-add-end Inv-loop μ-loop
 add-end c = let h = few (c .before .before .before .before) in omega arith
 
--- src/lib.rt:226:9
 add-end-2 : tie.Need-add-end-2 Inv-loop μ-loop
 add-end-2 c = let h = few (c .before .before .before .before) in omega arith
 
--- src/lib.rt:227:9
 add-used : tie.Need-add-used Inv-loop μ-loop
 add-used c = let h = few (c .before .before .before .before) in omega arith
 
--- src/lib.rt:223:9
 add-j : tie.Need-add-j Inv-loop μ-loop
 add-j c = search needs
 
--- src/lib.rt:223:5
 loop-less : tie.Need-loop-less Inv-loop μ-loop
 loop-less c = search needs
 
--- src/lib.rt:223:5
 loop-again : tie.Need-loop-again Inv-loop μ-loop
 loop-again c =
     let h = few (c .before .before .before .before) in
@@ -86,25 +75,21 @@ loop-again c =
     let next = total-next (c .before .before .before .before .before .before .before .args .t4) (c .before .before .before .before .before .loop .j) (omega arith) in
     (search needs, search needs, omega arith, omega arith, rw (runs-next (c .before .before .before .before .before .before .before .args .t4) (c .before .before .before .before .before .loop .j) (c .before .before .before .before .before .before .before .args .segments) (omega arith), joined-snoc, ← (c .before .before .before .before .before .loop .inv .2)) (then _ _ _ _ _ _ _ (c .before .before .before .before .before .loop .inv .4) (c .before .before .put-chunk .ensures) (place (c .before .before .before .before .before) (omega arith))))
 
--- src/lib.rt:229:5
 put-word-requires : tie.Need-put-word-requires Inv-loop μ-loop
 put-word-requires c κs =
     let e : c .before .before .loop .j ≡ c .before .before .before .before .args .n = omega arith in
     let all : total (take (c .before .before .loop .j) (c .before .before .before .before .args .t4)) ≡ total (take (c .before .before .before .before .args .n) (c .before .before .before .before .args .t4)) = rw e in
     search needs
 
--- src/lib.rt:230:5
 add-result : tie.Need-add-result Inv-loop μ-loop
 add-result c =
     let e : c .before .before .before .before .before .loop .j ≡ c .before .before .before .before .before .before .before .args .n = omega arith in
     let all : total (take (c .before .before .before .before .before .loop .j) (c .before .before .before .before .before .before .before .args .t4)) ≡ total (take (c .before .before .before .before .before .before .before .args .n) (c .before .before .before .before .before .before .before .args .t4)) = rw e in
     search needs
 
--- src/lib.rt:211:1
 same-length : tie.Need-same-length Inv-loop μ-loop
 same-length c = search needs
 
--- src/lib.rt:211:1
 returns : tie.Need-returns Inv-loop μ-loop
 unfolding writeListBytes
 returns c =

@@ -1,20 +1,17 @@
+-- `writer::reply_length` meets its contract.
 use borrow.Author.Needs.{needs}
 use Rattle.writer.proofs.reply_length.Statement.{statement}
 use Rattle.writer.proofs.reply_length.Tie as tie
 
--- src/lib.rt:91:20
 mul-result : tie.Need-mul-result
 mul-result c = search needs
 
--- src/lib.rt:91:16
 add-result : tie.Need-add-result
 add-result c = search needs
 
--- src/lib.rt:91:9
 returns : tie.Need-returns
 returns c = simp (c .if1 .taken)
 
--- src/lib.rt:86:1
 returns-2 : tie.Need-returns-2
 returns-2 c = simp (c .if1 .left)
 

@@ -1,3 +1,4 @@
+-- `writer::total_count` meets its contract.
 use mathlib.Core.Path.{_≡_, refl, ap}
 use Prim.Native.Nat.{_+_, _*_, _≤_, _-_}
 use native.Mathlib.Omega.{arith}
@@ -16,43 +17,34 @@ Inv-loop n counts sum₀ k₀ sum k = (k ≤ n) × (sum ≡ total (take k counts
 abbrev μ-loop : tie.MeasureT-loop
 μ-loop n counts sum₀ k₀ sum k = n - k
 
--- src/lib.rt:59:5
 loop-holds : tie.Need-loop-holds Inv-loop μ-loop
 unfolding total
 loop-holds c = (search needs, refl, search needs)
 
--- src/lib.rt:60:21
 mul-count : tie.Need-mul-count Inv-loop μ-loop
 mul-count c = search needs
 
--- src/lib.rt:60:21
 array-read-count : tie.Need-array-read-count Inv-loop μ-loop
 array-read-count c = search needs
 
--- src/lib.rt:61:16
 cast-sum : tie.Need-cast-sum Inv-loop μ-loop
 cast-sum c = search needs
 
--- src/lib.rt:61:9
 add-sum : tie.Need-add-sum Inv-loop μ-loop
 add-sum c = let small : Fits w32 (getD (c .before .before .args .t1) (c .before .loop .k) 0) = search needs in omega arith
 
--- src/lib.rt:59:9
 add-k : tie.Need-add-k Inv-loop μ-loop
 add-k c = search needs
 
--- src/lib.rt:59:5
 loop-less : tie.Need-loop-less Inv-loop μ-loop
 loop-less c = search needs
 
--- src/lib.rt:59:5
 loop-again : tie.Need-loop-again Inv-loop μ-loop
 loop-again c =
     let small : Fits w32 (getD (c .before .before .args .t1) (c .before .loop .k) 0) = search needs in
     let full : length (c .before .before .args .t1) ≡ 4 = search needs in
     (search needs, rw (total-next (c .before .before .args .t1) (c .before .loop .k) (omega arith)) (ap (λ t. t + getD (c .before .before .args .t1) (c .before .loop .k) 0) (c .before .loop .inv .1)), omega arith)
 
--- src/lib.rt:54:1
 returns : tie.Need-returns Inv-loop μ-loop
 returns c = let e : c .before .loop .k ≡ c .before .before .args .n = omega arith in rw (← e) (c .before .loop .inv .1)
 

@@ -1,3 +1,4 @@
+-- `writer::within_limits` meets its contract.
 use borrow.Author.Tests.{lt-leb, le-leb}
 use borrow.Author.Needs.{needs}
 use Rattle.writer.specs.Write.{withinLimits}
@@ -5,31 +6,25 @@ use Rattle.writer.proofs.Laws.{only-zero}
 use Rattle.writer.proofs.within_limits.Statement.{statement}
 use Rattle.writer.proofs.within_limits.Tie as tie
 
--- src/lib.rt:71:9
 returns : tie.Need-returns
 unfolding withinLimits
 returns c = simp (lt-leb _ _ (c .if1 .taken))
 
--- src/lib.rt:74:9
 returns-2 : tie.Need-returns-2
 unfolding withinLimits
 returns-2 c = simp (le-leb _ _ (c .before .if1 .left), lt-leb _ _ (c .if2 .taken))
 
--- src/lib.rt:76:13
 total-count-requires : tie.Need-total-count-requires
 total-count-requires c κs = search needs
 
--- src/lib.rt:77:9
 returns-3 : tie.Need-returns-3
 unfolding withinLimits
 returns-3 c = simp (le-leb _ _ (c .before .before .before .if1 .left), le-leb _ _ (c .before .before .if2 .left), ← (c .before .total-count .ensures), lt-leb _ _ (c .if3 .taken))
 
--- src/lib.rt:80:9
 returns-4 : tie.Need-returns-4
 unfolding withinLimits
 returns-4 c = simp (le-leb _ _ (c .before .before .before .before .if1 .left), le-leb _ _ (c .before .before .before .if2 .left), ← (c .before .before .total-count .ensures), le-leb _ _ (c .before .if3 .left), c .if4 .taken)
 
--- src/lib.rt:67:1
 returns-5 : tie.Need-returns-5
 unfolding withinLimits
 returns-5 c = simp (le-leb _ _ (c .before .before .before .before .if1 .left), le-leb _ _ (c .before .before .before .if2 .left), ← (c .before .before .total-count .ensures), le-leb _ _ (c .before .if3 .left), c .if4 .left) (only-zero (c .before .before .before .before .before .args .replies))

@@ -1,3 +1,4 @@
+-- `writer::write_header` meets its contract.
 use mathlib.Core.Path.{sym, _∙_}
 use borrow.Author.Tests.{ne-eqb}
 use borrow.Author.Needs.{needs}
@@ -6,24 +7,19 @@ use Rattle.writer.proofs.Laws.{accepted, stored-front}
 use Rattle.writer.proofs.write_header.Statement.{statement}
 use Rattle.writer.proofs.write_header.Tie as tie
 
--- src/lib.rt:321:9
 write-number-requires : tie.Need-write-number-requires
 write-number-requires c κs = search needs
 
--- src/lib.rt:323:9
 returns : tie.Need-returns
 unfolding writeAnswer writtenInto
 returns c = (rw (← (c .before .write-number .ensures), ne-eqb _ _ (c .if1 .taken)), rw (← (c .before .write-number .ensures), ne-eqb _ _ (c .if1 .taken)))
 
--- src/lib.rt:325:9
 put-header-requires : tie.Need-put-header-requires
 put-header-requires c κs = accepted (c .before .before .before .before .args .h) _ (sym (c .before .before .write-number .ensures) ∙ c .before .if1 .left)
 
--- src/lib.rt:318:1
 same-length : tie.Need-same-length
 same-length c = search needs
 
--- src/lib.rt:318:1
 returns-2 : tie.Need-returns-2
 unfolding writeAnswer writtenInto
 returns-2 c =

@@ -1,3 +1,4 @@
+-- `writer::write_number` meets its contract.
 use mathlib.Core.Bool.{true}
 use mathlib.Core.Path.{_≡_, sym, _∙_}
 use lib.Dec.{leb}
@@ -36,57 +37,44 @@ then-length c =
     let size = sized (entry (c .before .before .before .before .before .before) .args .h) (c .header-length .result) (known (c .before .before .before .before .before .before)) (c .header-length .ensures) in
     then-positions (c .before .before .before .before .before .before) ∙ simp (positions-fine 0 _ (sym (c .before .before .before .before .positions-number .ensures) ∙ c .before .before .before .if3 .left), size)
 
--- src/lib.rt:142:9
 bare-if-error-requires : tie.Need-bare-if-error-requires
 bare-if-error-requires c κs = search needs
 
--- src/lib.rt:143:9
 returns : tie.Need-returns
 unfolding writeNumber
 returns c = simp (← (c .before .bare-if-error .ensures), not-true (c .before .bare-if-error .result) (c .if1 .taken))
 
--- src/lib.rt:145:9
 within-limits-requires : tie.Need-within-limits-requires
 within-limits-requires c κs = search needs
 
--- src/lib.rt:152:9
 returns-2 : tie.Need-returns-2
 unfolding writeNumber
 returns-2 c = simp (← (c .before .before .before .bare-if-error .ensures), not-false (c .before .before .before .bare-if-error .result) (c .before .before .if1 .left), ← (c .before .within-limits .ensures), not-true (c .before .within-limits .result) (c .if2 .taken))
 
--- src/lib.rt:154:13
 cast-n : tie.Need-cast-n
 cast-n c = search needs
 
--- src/lib.rt:155:9
 positions-number-requires : tie.Need-positions-number-requires
 positions-number-requires c κs = known (c .before) .few-reads
 
--- src/lib.rt:157:9
 returns-3 : tie.Need-returns-3
 returns-3 c = sym (then-positions (c .before .before .before) ∙ positions-fault 0 _ (λ e. c .if3 .taken (c .before .positions-number .ensures ∙ e)) _ ∙ sym (c .before .positions-number .ensures))
 
--- src/lib.rt:162:9
 cast-header-length : tie.Need-cast-header-length
 cast-header-length c = search needs
 
--- src/lib.rt:165:9
 cast-header-length-2 : tie.Need-cast-header-length-2
 cast-header-length-2 c = search needs
 
--- src/lib.rt:159:9
 header-length-requires : tie.Need-header-length-requires
 header-length-requires c κs = let k = known (c .before .before .before .before .before) in (k .few-reads, k .few-chunks, k .few-segments, k .few-replies)
 
--- src/lib.rt:168:9
 returns-4 : tie.Need-returns-4
 returns-4 c = sym (then-length (c .before) ∙ simp (lt-leb _ _ (c .if4 .taken)))
 
--- src/lib.rt:171:9
 returns-5 : tie.Need-returns-5
 returns-5 c = sym (then-length (c .before .before) ∙ simp (le-leb _ _ (c .before .if4 .left), lt-leb _ _ (c .if5 .taken)))
 
--- src/lib.rt:133:1
 returns-6 : tie.Need-returns-6
 returns-6 c = sym (then-length (c .before .before) ∙ simp (le-leb _ _ (c .before .if4 .left), le-leb _ _ (c .if5 .left)))
 
