@@ -145,6 +145,7 @@ fn walk_lists(s: &[u8], kind: Kind) -> FrameWalk
     }
 }
 
+// An ERROR header has no lists.
 fn error_shape(kind: ErrorKind, end: usize) -> FrameWalk
     ensures { λ r. ⌜ r ≡ FrameWalk.Found (errorShape kind end) ⌝ }
 {
@@ -207,6 +208,7 @@ pub fn walk_frame(s: &[u8]) -> FrameWalk
         return FrameWalk::Refused(OTHER_VERSION);
     }
     let procedure = wire::word_at(s, PROCEDURE_AT);
+    // 0 MSG, 1 NOMSG, 2 MSGP, 3 DONE, 4 ERROR
     match procedure {
         0 => walk_lists(s, Kind::Msg),
         1 => ended(walk_lists(s, Kind::Nomsg), size),
@@ -318,6 +320,7 @@ pub fn read_header(s: &[u8]) -> ReadAnswer
     let chunks = shape.chunks;
     let m = shape.replies;
     let kind = shape.kind;
+    // Without entries there is nothing to fill: the short way for the commonest headers.
     if n + chunks + m == 0 {
         return ReadAnswer {
             header: bare(

@@ -58,6 +58,7 @@ pub struct ReplyChunk {
     pub present: bool,
 }
 
+// What a marker word says: the end of a list, one more entry, or a fault.
 pub enum Marker {
     End,
     Entry,
@@ -84,6 +85,7 @@ pub enum ListWalk {
     Refused(u32),
 }
 
+// The marker at the front of s.
 pub fn read_marker(s: &[u8]) -> Marker
     ensures { λ r. ⌜ r ≡ markerOf (now (s .entry)) ⌝ }
 {
