@@ -4,7 +4,6 @@ use mathlib.Core.Path.{_≡_}
 use mathlib.Core.List.{List, [], _∷_}
 use lib.ListN.{take, replicate}
 use Rattle.wire.specs.Wire.{joined, wordBytes}
-use Rattle.wire.specs.declared.Segment.{Segment}
 use Rattle.header.specs.Frame.{readFrame, readAnswer, payloadOf}
 use Rattle.header.specs.Content.{headerOf}
 use Rattle.header.specs.declared.Header.{Header}

@@ -30,10 +30,6 @@ use Rattle.header.specs.declared.Kind.{Kind}
 use Rattle.header.specs.declared.ErrorKind.the-variants.{Version, Chunk}
 use Rattle.header.specs.declared.FrameWalk.the-variants as walk
 
--- The last `left` bytes of s, lent from their place on.
-pub last-part : (s : List ℕ) (k : ℕ) → take (length s - k) (drop k s) ≡ drop k s
-last-part s k = part-from k s
-
 -- Of a suffix of s, the bytes behind are a suffix of s.
 pub suffix : (s u t : List ℕ) (k : ℕ) → k ≤ length s → u ≡ drop k s → length t ≤ length u → t ≡ drop (length u - length t) u → t ≡ drop (length s - length t) s
 suffix s u t k h e short q =

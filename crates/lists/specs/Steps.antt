@@ -1,8 +1,7 @@
 -- What the functions under the readers answer, case by case, from the definitions of the lists. Only internal contracts cite these.
 use Prim.Native.Nat.{ℕ, zero, suc, _+_, _-_, _*_, _≤_}
 use mathlib.Core.Bool.{cond}
-use mathlib.Core.List.{List, [], _∷_, _++_, map}
-use mathlib.Core.Option.{Option, none, some}
+use mathlib.Core.List.{List, [], _∷_, map}
 use lib.ListN.{length, drop, replicate}
 use lib.Dec.{eqb}
 use Rattle.wire.specs.Wire.{wordAt, segmentAt, readSegmentAt, stored, joined, zeroReadSegment}

@@ -4,7 +4,7 @@ use wire::ReadSegment;
 use wire::Segment;
 use wire::Word;
 ghost use mathlib.Core.Path.{_≡_};
-ghost use Prim.Native.Nat.{ℕ, _+_, _*_, _-_, _≤_};
+ghost use Prim.Native.Nat.{_+_, _*_, _-_, _≤_};
 ghost use lib.ListN.{length, take, drop};
 ghost use Rattle.wire.specs.Wire.{segmentAt, stored};
 ghost use Rattle.lists.specs.Parsed.{each};

@@ -9,7 +9,6 @@ use Rattle.header.specs.declared.Kind.the-variants.{Msg, Nomsg, Error}
 use Rattle.header.specs.declared.ErrorKind.the-variants.{Version, Chunk}
 use Rattle.header.specs.declared.Header.{Header}
 use Rattle.header.specs.declared.ReadAnswer.{ReadAnswer}
-use Rattle.writer.specs.declared.WriteAnswer.{WriteAnswer}
 use Rattle.writer.specs.Write.{writeAnswer, writtenInto}
 use Rattle.port.specs.declared.FlatHeader.{FlatHeader}
 use Rattle.port.specs.declared.FlatAnswer.{FlatAnswer}

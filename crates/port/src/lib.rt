@@ -2,13 +2,11 @@
 use header::ErrorKind;
 use header::Header;
 use header::Kind;
-use header::ReadAnswer;
 use lists::ReadList;
 use lists::ReplyChunk;
 use lists::WriteList;
 use wire::ReadSegment;
 use wire::Segment;
-use writer::WriteAnswer;
 ghost use mathlib.Core.Path.{_≡_};
 ghost use lib.ListN.{length};
 ghost use Rattle.header.specs.Frame.{readFrame, readAnswer, payloadOf};

@@ -1,7 +1,7 @@
 // Words and segments, of which every part of a transport header is made, read from a frame and written into a buffer.
 // Internal to the library: these calls ask that the bytes are there.
 ghost use mathlib.Core.Path.{_≡_};
-ghost use Prim.Native.Nat.{ℕ, _+_, _*_, _≤_};
+ghost use Prim.Native.Nat.{_+_, _*_, _≤_};
 ghost use lib.ListN.{length};
 ghost use Rattle.wire.specs.Wire.{joinBytes, wordAt, wordOf, refusalOf, segmentAt, readSegmentAt, stored, wordBytes, segmentBytes, readSegmentBytes};
 

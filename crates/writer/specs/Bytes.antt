@@ -1,6 +1,6 @@
 -- The bytes of a header (document 01, "The header on the wire").
 use Prim.Native.Nat.{ℕ}
-use mathlib.Core.List.{List, [], _++_}
+use mathlib.Core.List.{List, _++_}
 use mathlib.Core.Option.{Option, none, some}
 use lib.ListN.{length, take}
 use Rattle.wire.specs.Wire.{joined, wordBytes, segmentBytes, readSegmentBytes}

@@ -9,12 +9,12 @@ use wire::ReadSegment;
 use wire::Segment;
 ghost use mathlib.Core.Path.{_≡_};
 ghost use mathlib.Core.Bool.{true, cond};
-ghost use mathlib.Core.List.{List, _++_};
+ghost use mathlib.Core.List.{List};
 ghost use Prim.Native.Nat.{ℕ, _+_, _*_, _-_, _≤_};
 ghost use lib.ListN.{length, take, drop};
-ghost use Rattle.wire.specs.Wire.{stored, joined, wordBytes, segmentBytes};
+ghost use Rattle.wire.specs.Wire.{stored, joined, segmentBytes};
 ghost use Rattle.header.specs.Content.{contentOf, runs, replyOf};
-ghost use Rattle.writer.specs.Bytes.{entryBytes, chunkBytes, readListBytes, writeListBytes, replyBytes, errorBytes, fixedBytes, procedureOf, restBytes, partsOf, headerBytes};
+ghost use Rattle.writer.specs.Bytes.{chunkBytes, readListBytes, writeListBytes, replyBytes, errorBytes, fixedBytes, procedureOf, restBytes, partsOf, headerBytes};
 ghost use Rattle.writer.specs.Write.{bareIfError, total, withinLimits, writeNumber, writeAnswer, writtenInto};
 
 // "kind and lists do not fit"
