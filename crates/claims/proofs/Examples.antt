@@ -1,7 +1,7 @@
 -- The worked examples hold.
 -- Assumes nothing.
 use mathlib.Core.Path.{refl}
-use Rattle.wire.specs.Wire.{wordAt, wordOf, segmentAt, readSegmentAt, joined, wordBytes, segmentBytes, readSegmentBytes}
+use Rattle.wire.specs.Wire.{wordAt, wordOf, segmentAt, readSegmentAt, joined, wordBytes, words, segmentBytes, readSegmentBytes}
 use Rattle.lists.specs.Lists.{markerOf, readEntry, readList, segments, counted, writeList, replyChunk, positionsNumber}
 use Rattle.lists.specs.Parsed.{each}
 use Rattle.header.specs.Content.{headerOf, contentOf, runs}
@@ -9,7 +9,7 @@ use Rattle.header.specs.Frame.{threeParts, byProcedure, readFrame}
 use Rattle.writer.specs.Bytes.{headerBytes, fixedBytes, readListBytes, writeListBytes, replyBytes, chunkBytes, countedBytes, entryBytes}
 use Rattle.writer.specs.Write.{writeAnswer, writtenInto, writeNumber, withinLimits, total}
 use Rattle.claims.specs.RoundTrip.{All}
-use Rattle.claims.specs.Examples.{Holds, words, examples}
+use Rattle.claims.specs.Examples.{Holds, examples}
 
 -- "C1 to C13 are proved from the definitions as one list with one claim over it."
 pub worked : All Holds examples

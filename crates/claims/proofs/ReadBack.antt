@@ -11,7 +11,8 @@ use lib.ListN.{length, drop}
 use lib.Seq.{drop-drop}
 use lib.Dec.{leb, eqb}
 use Rattle.wire.specs.Wire.{wordAt, segmentAt, wordBytes, segmentBytes, readSegmentBytes, joined}
-use Rattle.lists.specs.Parsed.{done, check, each}
+use Rattle.wire.specs.Answers.{check}
+use Rattle.lists.specs.Parsed.{done, each}
 use Rattle.lists.specs.Lists.{markerOf, readEntry, readList, positionsNumber, segments, counted, writeList, replyChunk}
 use Rattle.writer.specs.Bytes.{entryBytes, countedBytes, chunkBytes, readListBytes, writeListBytes, replyBytes, errorBytes, procedureOf, restBytes, fixedBytes, headerBytes}
 use Rattle.writer.specs.Write.{total}

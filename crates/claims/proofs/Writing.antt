@@ -11,7 +11,7 @@ use lib.ListN.{length, take}
 use lib.Seq.{length-take-le}
 use lib.Dec.{leb, eqb}
 use Rattle.wire.specs.Wire.{joined, wordBytes}
-use Rattle.lists.specs.Parsed.{check}
+use Rattle.wire.specs.Answers.{check}
 use Rattle.lists.specs.Lists.{positionsNumber}
 use Rattle.header.specs.Content.{Content, replyChunkOf, headerOf, runs, replyOf, contentOf}
 use Rattle.writer.specs.Bytes.{countedBytes, chunkBytes, readListBytes, writeListBytes, replyBytes, errorBytes, restBytes, fixedBytes, headerBytes}
@@ -27,7 +27,8 @@ use Rattle.claims.proofs.Allowed.{ReplyAllowed, Allowed, BareIfError}
 use Rattle.claims.proofs.Words.{length-word, length-read-segment}
 use Rattle.claims.proofs.ReadBack.{check-passed, read-entry-first, chunk-first, length-segments}
 use Rattle.claims.proofs.Contents.{all-take, all-runs, lengths-runs, contentOf-headerOf, counts-held, Within, chunks-same}
-use Rattle.writer.proofs.Laws.{both-hold, positions-zero}
+use Rattle.wire.proofs.Laws.{both-hold}
+use Rattle.writer.proofs.Laws.{positions-zero}
 
 -- What every check asks of a header that is written into `room` bytes.
 pub record Passed (h : Header) (room : ℕ) : Type 0 where

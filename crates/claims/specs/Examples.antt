@@ -3,7 +3,7 @@ use Prim.Native.Nat.{ℕ}
 use mathlib.Core.Path.{_≡_}
 use mathlib.Core.List.{List, [], _∷_}
 use lib.ListN.{take, replicate}
-use Rattle.wire.specs.Wire.{joined, wordBytes}
+use Rattle.wire.specs.Wire.{words}
 use Rattle.header.specs.Frame.{readFrame, readAnswer, payloadOf}
 use Rattle.header.specs.Content.{headerOf}
 use Rattle.header.specs.declared.Header.{Header}
@@ -23,10 +23,6 @@ Holds (frame-reads frame number payload) = (readAnswer (readFrame frame) .number
 Holds (header-takes h size) =
     (writeAnswer h size ≡ record { number = 0; length = size })
     × (readAnswer (readFrame (writtenInto h (replicate size 0))) ≡ record { header = h; number = 0 })
-
--- A frame given by its words.
-unfoldable pub words : List ℕ → List ℕ
-words ws = joined wordBytes ws
 
 -- "C2 Words 2a, 1, 20, 0, 0, 0, 0 (hexadecimal)"
 abbrev pub c2 : List ℕ

@@ -40,6 +40,8 @@ pub const CREDIT_AT: usize = 8;
 pub const PROCEDURE_AT: usize = 12;
 
 pub const VERSION: u32 = 1;
+
+pub const PROCEDURE_ERROR: u32 = 4;
 // The fixed words and the marker that ends a read list.
 pub const EMPTY_READS_BYTES: usize = 20;
 
@@ -48,13 +50,15 @@ pub const CODE_VERSION: u32 = 1;
 
 pub const CODE_CHUNK: u32 = 2;
 
-const LOW_AT: usize = 20;
+pub const CODE_AT: usize = 16;
 
-const HIGH_AT: usize = 24;
+pub const LOW_AT: usize = 20;
 
-const VERSION_ERROR_BYTES: usize = 28;
+pub const HIGH_AT: usize = 24;
 
-const CHUNK_ERROR_BYTES: usize = 20;
+pub const VERSION_ERROR_BYTES: usize = 28;
+
+pub const CHUNK_ERROR_BYTES: usize = 20;
 
 // "Version(low, high) or Chunk"
 pub enum ErrorKind {

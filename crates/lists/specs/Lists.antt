@@ -10,7 +10,8 @@ use Rattle.wire.specs.declared.Word.{Word}
 use Rattle.wire.specs.declared.Word.the-variants as word
 use Rattle.wire.specs.declared.Segment.{Segment}
 use Rattle.wire.specs.declared.ReadSegment.{ReadSegment}
-use Rattle.lists.specs.Parsed.{Parsed, refused, done, andThen, require, check, prepend, each}
+use Rattle.wire.specs.Answers.{check}
+use Rattle.lists.specs.Parsed.{Parsed, refused, done, andThen, require, prepend, each}
 use Rattle.lists.specs.declared.Marker.{Marker}
 use Rattle.lists.specs.declared.Marker.the-variants as marker
 

@@ -18,10 +18,6 @@ andThen (done a t) next = next a t
 abbrev pub require : {A : Type 0} → Bool → ℕ → Parsed A → Parsed A
 require holds n next = cond holds next (refused n)
 
--- The same where only the number is asked for.
-abbrev pub check : Bool → ℕ → ℕ → ℕ
-check holds n next = cond holds next n
-
 -- One more at the front of a list that was read.
 abbrev pub prepend : {A : Type 0} → A → Parsed (List A) → Parsed (List A)
 prepend x p = andThen p (λ xs t. done (x ∷ xs) t)

@@ -9,11 +9,11 @@ use Rattle.header.specs.declared.Kind.the-variants.{Msg, Nomsg, Error}
 use Rattle.header.specs.declared.ErrorKind.the-variants.{Version, Chunk}
 use Rattle.header.specs.declared.Header.{Header}
 use Rattle.header.specs.declared.ReadAnswer.{ReadAnswer}
+use Rattle.wire.specs.declared.WriteAnswer.{WriteAnswer}
 use Rattle.writer.specs.Write.{writeAnswer, writtenInto}
 use Rattle.port.specs.declared.FlatHeader.{FlatHeader}
 use Rattle.port.specs.declared.FlatAnswer.{FlatAnswer}
 use Rattle.port.specs.declared.FlatPart.{FlatPart}
-use Rattle.port.specs.declared.FlatWritten.{FlatWritten}
 use Rattle.port.specs.declared.Known.{Known}
 use Rattle.port.specs.declared.Known.the-variants.{Is, No}
 
@@ -36,9 +36,10 @@ highOf Nomsg = 0
 highOf (Error (Version low high)) = high
 highOf (Error Chunk) = 0
 
-abbrev pub presentNumber : Bool → ℕ
-presentNumber true = 1
-presentNumber false = 0
+-- A flag as a number.
+abbrev pub flagNumber : Bool → ℕ
+flagNumber true = 1
+flagNumber false = 0
 
 -- A header as the flat struct.
 unfoldable pub flatOf : Header → FlatHeader
@@ -49,7 +50,7 @@ flatOf h = record {
   «write_counts» = h .writes .counts;
   «read_count» = h .reads .count;
   «write_chunks» = h .writes .chunks;
-  «reply_present» = presentNumber (h .reply .present);
+  «reply_present» = flagNumber (h .reply .present);
   «reply_count» = h .reply .count;
   kind = kindNumber (h .kind);
   low = lowOf (h .kind);
@@ -88,18 +89,18 @@ headerAt f kind present = record {
 }
 
 -- What is written: nothing where the kind or the presence is none that exists (20), else what the library writes.
-abbrev pub portAnswer : FlatHeader → Known → Bool → ℕ → FlatWritten
+abbrev pub portAnswer : FlatHeader → Known → Bool → ℕ → WriteAnswer
 portAnswer f No fits room = record { number = 20; length = 0 }
 portAnswer f (Is kind) false room = record { number = 20; length = 0 }
 portAnswer f (Is kind) true room =
-    record { number = writeAnswer (headerAt f kind (eqb (f .«reply_present») 1)) room .number; length = writeAnswer (headerAt f kind (eqb (f .«reply_present») 1)) room .length }
+    writeAnswer (headerAt f kind (eqb (f .«reply_present») 1)) room
 
 abbrev pub portInto : FlatHeader → Known → Bool → List ℕ → List ℕ
 portInto f No fits out = out
 portInto f (Is kind) false out = out
 portInto f (Is kind) true out = writtenInto (headerAt f kind (eqb (f .«reply_present») 1)) out
 
-unfoldable pub flatWritten : FlatHeader → ℕ → FlatWritten
+unfoldable pub flatWritten : FlatHeader → ℕ → WriteAnswer
 flatWritten f room = portAnswer f (kindOf (f .kind) (f .low) (f .high)) (leb (f .«reply_present») 1) room
 
 unfoldable pub flatInto : FlatHeader → List ℕ → List ℕ

@@ -1,19 +1,24 @@
-// The library's calls for C and Rust: headers as one flat struct, kinds as numbers, parts as offset and length.
+// The library's calls for C and Rust: flat structs, kinds and flags as numbers, parts as offset and length.
 use header::ErrorKind;
 use header::Header;
 use header::Kind;
 use lists::ReadList;
 use lists::ReplyChunk;
 use lists::WriteList;
+use reply::GrantAnswer;
+use setup::Agreement;
+use setup::Setup;
+use setup::Size;
 use wire::ReadSegment;
 use wire::Segment;
+use wire::WriteAnswer;
 ghost use mathlib.Core.Path.{_≡_};
 ghost use lib.ListN.{length};
 ghost use Rattle.header.specs.Frame.{readFrame, readAnswer, payloadOf};
-ghost use Rattle.port.specs.Flat.{kindNumber, lowOf, highOf, presentNumber, flatOf, flatAnswer, partOf, kindOf, headerAt, flatWritten, flatInto};
-
-// "bad argument": a kind or a presence that does not exist, which a flat header can name and a header cannot
-pub const BAD_ARGUMENT: u32 = 20;
+ghost use Rattle.reply.specs.Reply.{grantAnswer, errorReplyAnswer, errorReplyInto};
+ghost use Rattle.setup.specs.Setup.{readSetup};
+ghost use Rattle.port.specs.FlatSetup.{flatSetupOf, flatSetupAnswer, setupAt, flatSetupWritten, flatSetupInto, flatAgreementOf, flatAgreement};
+ghost use Rattle.port.specs.Flat.{kindNumber, lowOf, highOf, flagNumber, flatOf, flatAnswer, partOf, kindOf, headerAt, flatWritten, flatInto};
 
 #[repr(C)]
 pub struct FlatHeader {
@@ -42,12 +47,6 @@ pub struct FlatAnswer {
 #[repr(C)]
 pub struct FlatPart {
     pub offset: usize,
-    pub length: usize,
-}
-
-#[repr(C)]
-pub struct FlatWritten {
-    pub number: u32,
     pub length: usize,
 }
 
@@ -96,10 +95,10 @@ fn high_of(kind: Kind) -> u32
     }
 }
 
-fn present_number(present: bool) -> u32
-    ensures { λ r. ⌜ r ≡ presentNumber present ⌝ }
+fn flag_number(flag: bool) -> u32
+    ensures { λ r. ⌜ r ≡ flagNumber flag ⌝ }
 {
-    if present {
+    if flag {
         return 1;
     }
     0
@@ -123,7 +122,7 @@ fn flat_of(h: Header) -> FlatHeader
         write_counts,
         read_count: read_list.count,
         write_chunks: write_list.chunks,
-        reply_present: present_number(reply_chunk.present),
+        reply_present: flag_number(reply_chunk.present),
         reply_count: reply_chunk.count,
         kind: kind_number(kind),
         low: low_of(kind),
@@ -207,27 +206,141 @@ fn header_at(f: FlatHeader, kind: Kind, present: bool) -> Header
 
 // Writes a header into a buffer.
 #[no_mangle]
-pub extern "C" fn eos_write_header(f: FlatHeader, out: &mut [u8]) -> FlatWritten
+pub extern "C" fn eos_write_header(f: FlatHeader, out: &mut [u8]) -> WriteAnswer
     ensures answer { λ r. ⌜ r ≡ flatWritten f (length (now (out .entry))) ⌝ }
     ensures buffer { λ _. ⌜ now (out .exit) ≡ flatInto f (now (out .entry)) ⌝ }
 {
     let known = kind_of(f.kind, f.low, f.high);
     let Known::Is(kind) = known else {
-        return FlatWritten {
-            number: BAD_ARGUMENT,
+        return WriteAnswer {
+            number: wire::BAD_ARGUMENT,
             length: 0,
         };
     };
     if 1 < f.reply_present {
-        return FlatWritten {
-            number: BAD_ARGUMENT,
+        return WriteAnswer {
+            number: wire::BAD_ARGUMENT,
             length: 0,
         };
     }
     let h = header_at(f, kind, f.reply_present == 1);
-    let w = writer::write_header(h, out);
-    FlatWritten {
-        number: w.number,
-        length: w.length,
+    writer::write_header(h, out)
+}
+
+// The setup data of one side. The flag is 0 or 1, a size is its number of bytes.
+#[repr(C)]
+pub struct FlatSetup {
+    pub remote_invalidation: u32,
+    pub send: u32,
+    pub receive: u32,
+}
+
+#[repr(C)]
+pub struct FlatSetupAnswer {
+    pub setup: FlatSetup,
+    pub present: u32,
+    pub number: u32,
+}
+
+#[repr(C)]
+pub struct FlatAgreement {
+    pub client_to_server: u32,
+    pub server_to_client: u32,
+    pub remote_invalidation: u32,
+    pub number: u32,
+}
+
+fn flat_setup_of(x: Setup) -> FlatSetup
+    ensures { λ r. ⌜ r ≡ flatSetupOf x ⌝ }
+{
+    let send = x.send;
+    let receive = x.receive;
+    FlatSetup {
+        remote_invalidation: flag_number(x.remote_invalidation),
+        send: send.0,
+        receive: receive.0,
     }
+}
+
+// Reads setup data.
+#[no_mangle]
+pub extern "C" fn eos_read_setup(bytes: &[u8]) -> FlatSetupAnswer
+    ensures { λ r. ⌜ r ≡ flatSetupAnswer (readSetup (now (bytes .entry))) ⌝ }
+{
+    let answer = setup::read_setup(bytes);
+    let x = answer.setup;
+    FlatSetupAnswer {
+        setup: flat_setup_of(x),
+        present: flag_number(answer.present),
+        number: answer.number,
+    }
+}
+
+fn setup_at(f: FlatSetup) -> Setup
+    ensures { λ r. ⌜ r ≡ setupAt f ⌝ }
+{
+    Setup {
+        remote_invalidation: f.remote_invalidation == 1,
+        send: Size(f.send),
+        receive: Size(f.receive),
+    }
+}
+
+// Writes setup data into a buffer.
+#[no_mangle]
+pub extern "C" fn eos_write_setup(f: FlatSetup, out: &mut [u8]) -> WriteAnswer
+    ensures answer { λ r. ⌜ r ≡ flatSetupWritten f (length (now (out .entry))) ⌝ }
+    ensures buffer { λ _. ⌜ now (out .exit) ≡ flatSetupInto f (now (out .entry)) ⌝ }
+{
+    if 1 < f.remote_invalidation {
+        return WriteAnswer {
+            number: wire::BAD_ARGUMENT,
+            length: 0,
+        };
+    }
+    setup::write_setup(setup_at(f), out)
+}
+
+fn flat_agreement_of(a: Agreement) -> FlatAgreement
+    ensures { λ r. ⌜ r ≡ flatAgreementOf a ⌝ }
+{
+    let client_to_server = a.client_to_server;
+    let server_to_client = a.server_to_client;
+    FlatAgreement {
+        client_to_server: client_to_server.0,
+        server_to_client: server_to_client.0,
+        remote_invalidation: flag_number(a.remote_invalidation),
+        number: a.number,
+    }
+}
+
+// What follows from the setup data of both sides.
+#[no_mangle]
+pub extern "C" fn eos_agree(client: FlatSetup, server: FlatSetup) -> FlatAgreement
+    ensures { λ r. ⌜ r ≡ flatAgreement client server ⌝ }
+{
+    if 1 < client.remote_invalidation {
+        return flat_agreement_of(setup::no_agreement());
+    }
+    if 1 < server.remote_invalidation {
+        return flat_agreement_of(setup::no_agreement());
+    }
+    flat_agreement_of(setup::agree(setup_at(client), setup_at(server)))
+}
+
+// The credits to grant to one who asks.
+#[no_mangle]
+pub extern "C" fn eos_grant(asked: u32, limit: u32) -> GrantAnswer
+    ensures { λ r. ⌜ r ≡ grantAnswer asked limit ⌝ }
+{
+    reply::grant(asked, limit)
+}
+
+// Writes the reply to a frame that got an answer number, if there is one.
+#[no_mangle]
+pub extern "C" fn eos_error_reply(frame: &[u8], number: u32, limit: u32, out: &mut [u8]) -> WriteAnswer
+    ensures answer { λ r. ⌜ r ≡ errorReplyAnswer (now (frame .entry)) number limit (length (now (out .entry))) ⌝ }
+    ensures buffer { λ _. ⌜ now (out .exit) ≡ errorReplyInto (now (frame .entry)) number limit (now (out .entry)) ⌝ }
+{
+    reply::error_reply(frame, number, limit, out)
 }

@@ -1,11 +1,13 @@
 -- Laws about bytes stored and read at places.
 -- Assumes nothing.
-use mathlib.Core.Path.{_≡_, _∙_}
+use mathlib.Core.Path.{_≡_, refl, _∙_}
+use mathlib.Core.Bool.{Bool, true, false, _&&_}
 use mathlib.Core.List.{List, [], _∷_, _++_}
-use Prim.Native.Nat.{ℕ, suc, _+_, _-_}
-use native.Mathlib.Nat.{add-zero, add-suc, suc-add, add-assoc, le-refl}
+use Prim.Native.Nat.{ℕ, suc, _+_, _-_, _≤_}
+use native.Mathlib.Nat.{add-zero, zero-add, add-suc, suc-add, add-assoc, le-refl}
+use native.Mathlib.Omega.{arith}
 use lib.ListN.{length, take, drop, set, length-drop}
-use lib.Seq.{take-all, getD-drop}
+use lib.Seq.{take-all, getD-drop, sets-eq}
 use Rattle.wire.specs.Wire.{stored, wordAt, segmentAt, readSegmentAt}
 
 -- The part of a slice from k on.
@@ -21,6 +23,16 @@ stored-append l i (x ∷ a) b = stored-append (set l i x) (suc i) a b ∙ rw (ad
 -- The same of three states of a buffer.
 pub then : {A : Type 0} (l m n : List A) (i j : ℕ) (a b : List A) → m ≡ stored l i a → n ≡ stored m j b → i + length a ≡ j → n ≡ stored l i (a ++ b)
 then l m n i j a b p q e = q ∙ rw (← e, p, stored-append l i a b)
+
+-- What is stored at the front stands before the bytes behind it.
+pub stored-front : (l v : List ℕ) → length v ≤ length l → stored l 0 v ≡ v ++ drop (length v) l
+unfolding stored
+stored-front l v h = sets-eq v l 0 (omega arith) ∙ rw zero-add
+
+-- Both of two conditions.
+pub both-hold : (a b : Bool) → (a && b) ≡ true → (a ≡ true) × (b ≡ true)
+both-hold true b h = (refl, h)
+both-hold false b h = absurd (let z : _≡_ {A = ℕ} 0 1 = cc in omega arith)
 
 -- What stands behind k bytes: a word, a segment, a read segment.
 pub word-drop : (k j : ℕ) (s : List ℕ) → wordAt (drop k s) j ≡ wordAt s (k + j)

@@ -56,6 +56,10 @@ joined f (x ∷ xs) = f x ++ joined f xs
 unfoldable pub wordBytes : ℕ → List ℕ
 wordBytes x = x / 16777216 % 256 ∷ x / 65536 % 256 ∷ x / 256 % 256 ∷ x % 256 ∷ []
 
+-- A frame given by its words.
+unfoldable pub words : List ℕ → List ℕ
+words ws = joined wordBytes ws
+
 -- The 16 bytes of a segment.
 unfoldable pub segmentBytes : Segment → List ℕ
 segmentBytes x =

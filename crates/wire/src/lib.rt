@@ -16,6 +16,10 @@ pub const READ_SEGMENT_BYTES: usize = 20;
 
 // "frame ends inside a field that must be there"
 pub const ENDS_INSIDE_FIELD: u32 = 5;
+// "output buffer too short"
+pub const BUFFER_SHORT: u32 = 16;
+// "bad argument"
+pub const BAD_ARGUMENT: u32 = 20;
 
 // Memory that the other side registered.
 #[repr(C)]
@@ -30,6 +34,13 @@ pub struct Segment {
 pub struct ReadSegment {
     pub position: u32,
     pub target: Segment,
+}
+
+// What a writer answers: its number, and with 0 how many bytes it wrote.
+#[repr(C)]
+pub struct WriteAnswer {
+    pub number: u32,
+    pub length: usize,
 }
 
 // A word that is asked for: its value, or the number of the refusal.

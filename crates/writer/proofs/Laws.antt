@@ -20,9 +20,10 @@ use borrow.Author.Needs.{needs}
 use Rattle.wire.specs.Wire.{stored, joined, wordBytes, segmentBytes, readSegmentBytes}
 use Rattle.wire.specs.declared.Segment.{Segment}
 use Rattle.wire.specs.declared.ReadSegment.{ReadSegment}
+use Rattle.wire.proofs.Laws.{both-hold}
 use Rattle.wire.proofs.Segment as segment
 use Rattle.wire.proofs.ReadSegment as read-segment
-use Rattle.lists.specs.Parsed.{check}
+use Rattle.wire.specs.Answers.{check}
 use Rattle.lists.specs.Lists.{positionsNumber}
 use Rattle.lists.specs.declared.ReadList.{ReadList}
 use Rattle.lists.specs.declared.WriteList.{WriteList}
@@ -202,11 +203,6 @@ pub record Passed (reads : ReadList) (writes : WriteList) (reply : ReplyChunk) :
   pub writes-bytes : length (writeListBytes (runs (take (writes .chunks) (writes .counts)) (writes .segments))) ≡ writes .chunks * 8 + total (take (writes .chunks) (writes .counts)) * 16 + 4
   pub reply-bytes : length (replyBytes (replyOf (reply .present) (take (reply .count) (reply .segments)))) ≡ cond (reply .present) (8 + reply .count * 16) 4
 
--- Both of two conditions.
-pub both-hold : (a b : Bool) → (a && b) ≡ true → (a ≡ true) × (b ≡ true)
-both-hold true b h = (refl, h)
-both-hold false b h = absurd (let z : _≡_ {A = ℕ} 0 1 = cc in omega arith)
-
 -- The replies are few, be there a chunk or not.
 few-in : (present : Bool) (n : ℕ) → n ≤ cond present 16 0 → n ≤ 16
 few-in true n h = h
@@ -279,8 +275,3 @@ accepted h room e =
     let b = check-zero (withinLimits (h .reads .count) (h .writes .chunks) (h .writes .counts) (h .reply .present) (h .reply .count)) 7 _ (omega arith) a in
     let d = check-zero (leb n 1024) 21 _ (omega arith) (positions-zero 0 (contentOf h .reads) _ (b .1)) .1 in
     (b .0, leb-true n room (check-zero (leb n room) 16 0 (omega arith) d .0))
-
--- What is stored at the front stands before the bytes behind it.
-pub stored-front : (l v : List ℕ) → length v ≤ length l → stored l 0 v ≡ v ++ drop (length v) l
-unfolding stored
-stored-front l v h = sets-eq v l 0 (omega arith) ∙ rw zero-add

@@ -4,14 +4,14 @@ use mathlib.Core.Bool.{Bool, true, cond, not, _&&_}
 use mathlib.Core.List.{List, [], _∷_, _++_}
 use lib.ListN.{length, take, drop}
 use lib.Dec.{leb, eqb}
-use Rattle.lists.specs.Parsed.{check}
+use Rattle.wire.specs.Answers.{check, writerAnswer, writerBuffer}
+use Rattle.wire.specs.declared.WriteAnswer.{WriteAnswer}
 use Rattle.lists.specs.Lists.{mostReads, mostChunks, mostWrites, mostReplies, positionsNumber}
 use Rattle.header.specs.Content.{contentOf}
 use Rattle.header.specs.declared.Kind.{Kind}
 use Rattle.header.specs.declared.Kind.the-variants.{Msg, Nomsg, Error}
 use Rattle.header.specs.declared.Header.{Header}
 use Rattle.writer.specs.Bytes.{headerBytes}
-use Rattle.writer.specs.declared.WriteAnswer.{WriteAnswer}
 
 -- "12 (here only for an ERROR header with any entry or a reply chunk)"
 abbrev pub bareIfError : Kind → ℕ → ℕ → Bool → Bool
@@ -41,12 +41,8 @@ writeNumber h room =
 
 -- The number, and with 0 how many bytes were written.
 unfoldable pub writeAnswer : Header → ℕ → WriteAnswer
-writeAnswer h room =
-    record { number = writeNumber h room; length = cond (eqb (writeNumber h room) 0) (length (headerBytes (contentOf h))) 0 }
+writeAnswer h room = writerAnswer (writeNumber h room) (headerBytes (contentOf h))
 
--- "Every writer keeps the buffer's bytes behind what it wrote."; a refused call leaves the buffer as it was.
+-- The buffer behind the call.
 unfoldable pub writtenInto : Header → List ℕ → List ℕ
-writtenInto h out =
-    cond (eqb (writeNumber h (length out)) 0)
-    (headerBytes (contentOf h) ++ drop (length (headerBytes (contentOf h))) out)
-    out
+writtenInto h out = writerBuffer (writeNumber h (length out)) (headerBytes (contentOf h)) out

@@ -7,6 +7,7 @@ use lists::ReplyChunk;
 use lists::WriteList;
 use wire::ReadSegment;
 use wire::Segment;
+use wire::WriteAnswer;
 ghost use mathlib.Core.Path.{_≡_};
 ghost use mathlib.Core.Bool.{true, cond};
 ghost use mathlib.Core.List.{List};
@@ -19,8 +20,6 @@ ghost use Rattle.writer.specs.Write.{bareIfError, total, withinLimits, w
 
 // "kind and lists do not fit"
 pub const KIND_AND_LISTS: u32 = 12;
-// "output buffer too short"
-pub const BUFFER_SHORT: u32 = 16;
 // "a header to be written is longer than 1,024 bytes"
 pub const HEADER_LONG: u32 = 21;
 
@@ -28,11 +27,6 @@ pub const LONGEST_HEADER: usize = 1024;
 
 // A code word, low and high.
 const VERSION_ERROR_BYTES: usize = 12;
-
-pub struct WriteAnswer {
-    pub number: u32,
-    pub length: usize,
-}
 
 // Whether a header that is an ERROR has no entry and no reply chunk.
 fn bare_if_error(kind: Kind, reads: u32, chunks: u32, present: bool) -> bool
@@ -174,7 +168,7 @@ fn write_number(h: Header, room: usize) -> u32
         return HEADER_LONG;
     }
     if room < length {
-        return BUFFER_SHORT;
+        return wire::BUFFER_SHORT;
     }
     0
 }
@@ -274,7 +268,7 @@ fn procedure_of(kind: Kind) -> u32
     match kind {
         Kind::Msg => 0,
         Kind::Nomsg => 1,
-        Kind::Error(_) => 4,
+        Kind::Error(_) => header::PROCEDURE_ERROR,
     }
 }
 

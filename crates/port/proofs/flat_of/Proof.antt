@@ -4,8 +4,8 @@ use borrow.Author.Needs.{needs}
 use Rattle.port.proofs.flat_of.Statement.{statement}
 use Rattle.port.proofs.flat_of.Tie as tie
 
-present-number-requires : tie.Need-present-number-requires
-present-number-requires c κs = search needs
+flag-number-requires : tie.Need-flag-number-requires
+flag-number-requires c κs = search needs
 
 kind-number-requires : tie.Need-kind-number-requires
 kind-number-requires c κs = search needs
@@ -24,7 +24,7 @@ pub flat-of-spec : {M : Type 1} → statement M
 flat-of-spec =
     tie.close
     (tie.spec
-    present-number-requires
+    flag-number-requires
     kind-number-requires
     low-of-requires
     high-of-requires

@@ -3,7 +3,8 @@ use mathlib.Core.Path.{sym, _∙_}
 use borrow.Author.Tests.{ne-eqb}
 use borrow.Author.Needs.{needs}
 use Rattle.writer.specs.Write.{writeAnswer, writtenInto}
-use Rattle.writer.proofs.Laws.{accepted, stored-front}
+use Rattle.wire.proofs.Laws.{stored-front}
+use Rattle.writer.proofs.Laws.{accepted}
 use Rattle.writer.proofs.write_header.Statement.{statement}
 use Rattle.writer.proofs.write_header.Tie as tie
 

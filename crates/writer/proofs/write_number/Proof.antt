@@ -5,7 +5,7 @@ use lib.Dec.{leb}
 use lib.ListN.{take, length}
 use borrow.Author.Tests.{le-leb, lt-leb, not-true, not-false}
 use borrow.Author.Needs.{needs}
-use Rattle.lists.specs.Parsed.{check}
+use Rattle.wire.specs.Answers.{check}
 use Rattle.lists.specs.Lists.{positionsNumber}
 use Rattle.header.specs.Content.{contentOf}
 use Rattle.writer.specs.Write.{withinLimits, writeNumber}

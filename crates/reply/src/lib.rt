@@ -1,0 +1,193 @@
+// The credit grant and the error reply. Public: grant, error_reply.
+use wire::WriteAnswer;
+ghost use mathlib.Core.Path.{_≡_};
+ghost use mathlib.Core.List.{_∷_, []};
+ghost use Prim.Native.Nat.{_≤_};
+ghost use lib.ListN.{length};
+ghost use Rattle.wire.specs.Wire.{stored, words};
+ghost use Rattle.wire.specs.Answers.{writerAnswer, writerBuffer};
+ghost use Rattle.reply.specs.Reply.{granted, grantAnswer, replyKindOf, replyKindFor, replyWords, roomNumber, errorReplyAnswer, errorReplyInto};
+
+// What is answered to a frame.
+pub enum ReplyKind {
+    None,
+    Version,
+    Chunk,
+}
+
+// "an answer number above 21"
+const LAST_NUMBER: u32 = 21;
+
+// "2 gives a version reply; 3, 5 to 9 and 11 to 15 a chunk reply; all others none"
+const REPLY_KINDS: [ReplyKind; 22] = [
+    ReplyKind::None,
+    ReplyKind::None,
+    ReplyKind::Version,
+    ReplyKind::Chunk,
+    ReplyKind::None,
+    ReplyKind::Chunk,
+    ReplyKind::Chunk,
+    ReplyKind::Chunk,
+    ReplyKind::Chunk,
+    ReplyKind::Chunk,
+    ReplyKind::None,
+    ReplyKind::Chunk,
+    ReplyKind::Chunk,
+    ReplyKind::Chunk,
+    ReplyKind::Chunk,
+    ReplyKind::Chunk,
+    ReplyKind::None,
+    ReplyKind::None,
+    ReplyKind::None,
+    ReplyKind::None,
+    ReplyKind::None,
+    ReplyKind::None,
+];
+
+#[repr(C)]
+pub struct GrantAnswer {
+    pub credit: u32,
+    pub number: u32,
+}
+
+// The credits that a limit allows.
+fn granted_credit(asked: u32, limit: u32) -> u32
+    requires { ⌜ 1 ≤ limit ⌝ }
+    ensures { λ r. ⌜ r ≡ granted asked limit ⌝ }
+{
+    // A side without credits could never ask again.
+    if asked == 0 {
+        return 1;
+    }
+    if limit < asked {
+        return limit;
+    }
+    asked
+}
+
+// The credits to grant to one who asks.
+pub fn grant(asked: u32, limit: u32) -> GrantAnswer
+    ensures { λ r. ⌜ r ≡ grantAnswer asked limit ⌝ }
+{
+    if limit == 0 {
+        return GrantAnswer {
+            credit: 0,
+            number: wire::BAD_ARGUMENT,
+        };
+    }
+    GrantAnswer {
+        credit: granted_credit(asked, limit),
+        number: 0,
+    }
+}
+
+// The reply that the table has for an answer number.
+fn kind_of(number: u32) -> ReplyKind
+    requires { ⌜ number ≤ 21 ⌝ }
+    ensures { λ r. ⌜ r ≡ replyKindOf number ⌝ }
+{
+    let kind = REPLY_KINDS[number as usize];
+    kind
+}
+
+// The reply to a frame that got an answer number.
+fn kind_for(frame: &[u8], number: u32) -> ReplyKind
+    requires { ⌜ (16 ≤ length (now frame)) × (number ≤ 21) ⌝ }
+    ensures { λ r. ⌜ r ≡ replyKindFor (now (frame .entry)) number ⌝ }
+{
+    // Two sides that answer each other's errors would never stop.
+    if wire::word_at(frame, header::PROCEDURE_AT) == header::PROCEDURE_ERROR {
+        return ReplyKind::None;
+    }
+    kind_of(number)
+}
+
+// Writes the words that both replies have.
+fn put_common(out: &mut [u8], xid: u32, credit: u32, code: u32)
+    requires { ⌜ 20 ≤ length (now out) ⌝ }
+    ensures { λ _. ⌜ now (out .exit) ≡ stored (now (out .entry)) 0 (words (xid ∷ 1 ∷ credit ∷ 4 ∷ code ∷ [])) ⌝ }
+{
+    wire::put_word(out, header::XID_AT, xid);
+    wire::put_word(out, header::VERSION_AT, header::VERSION);
+    wire::put_word(out, header::CREDIT_AT, credit);
+    wire::put_word(out, header::PROCEDURE_AT, header::PROCEDURE_ERROR);
+    wire::put_word(out, header::CODE_AT, code);
+}
+
+// Writes a version reply.
+fn put_version(out: &mut [u8], xid: u32, credit: u32)
+    requires { ⌜ 28 ≤ length (now out) ⌝ }
+    ensures { λ _. ⌜ now (out .exit) ≡ stored (now (out .entry)) 0 (words (replyWords ReplyKind.Version xid credit)) ⌝ }
+{
+    put_common(out, xid, credit, header::CODE_VERSION);
+    wire::put_word(out, header::LOW_AT, header::VERSION);
+    wire::put_word(out, header::HIGH_AT, header::VERSION);
+}
+
+// Writes a reply where there is one and the buffer has room.
+fn put_reply(out: &mut [u8], kind: ReplyKind, xid: u32, credit: u32) -> WriteAnswer
+    ensures answer { λ r. ⌜ r ≡ writerAnswer (roomNumber (words (replyWords kind xid credit)) (length (now (out .entry)))) (words (replyWords kind xid credit)) ⌝ }
+    ensures buffer { λ _. ⌜ now (out .exit) ≡ writerBuffer (roomNumber (words (replyWords kind xid credit)) (length (now (out .entry)))) (words (replyWords kind xid credit)) (now (out .entry)) ⌝ }
+{
+    match kind {
+        ReplyKind::None => WriteAnswer {
+            number: 0,
+            length: 0,
+        },
+        ReplyKind::Version => {
+            if out.len() < header::VERSION_ERROR_BYTES {
+                return WriteAnswer {
+                    number: wire::BUFFER_SHORT,
+                    length: 0,
+                };
+            }
+            put_version(out, xid, credit);
+            WriteAnswer {
+                number: 0,
+                length: header::VERSION_ERROR_BYTES,
+            }
+        }
+        ReplyKind::Chunk => {
+            if out.len() < header::CHUNK_ERROR_BYTES {
+                return WriteAnswer {
+                    number: wire::BUFFER_SHORT,
+                    length: 0,
+                };
+            }
+            put_common(out, xid, credit, header::CODE_CHUNK);
+            WriteAnswer {
+                number: 0,
+                length: header::CHUNK_ERROR_BYTES,
+            }
+        }
+    }
+}
+
+// Writes the reply to a frame that got an answer number, if there is one, and keeps the bytes behind it.
+pub fn error_reply(frame: &[u8], number: u32, limit: u32, out: &mut [u8]) -> WriteAnswer
+    ensures answer { λ r. ⌜ r ≡ errorReplyAnswer (now (frame .entry)) number limit (length (now (out .entry))) ⌝ }
+    ensures buffer { λ _. ⌜ now (out .exit) ≡ errorReplyInto (now (frame .entry)) number limit (now (out .entry)) ⌝ }
+{
+    if limit == 0 {
+        return WriteAnswer {
+            number: wire::BAD_ARGUMENT,
+            length: 0,
+        };
+    }
+    if LAST_NUMBER < number {
+        return WriteAnswer {
+            number: wire::BAD_ARGUMENT,
+            length: 0,
+        };
+    }
+    if frame.len() < header::FIXED_BYTES {
+        return WriteAnswer {
+            number: 0,
+            length: 0,
+        };
+    }
+    let kind = kind_for(frame, number);
+    let xid = wire::word_at(frame, header::XID_AT);
+    let asked = wire::word_at(frame, header::CREDIT_AT);
+    put_reply(out, kind, xid, granted_credit(asked, limit))
+}

@@ -1,0 +1,240 @@
+// The connection setup data of RFC 8797, read and written, and what follows from two of them.
+// Public: Size, Setup, read_setup, write_setup, agree.
+use wire::WriteAnswer;
+ghost use mathlib.Core.Path.{_≡_};
+ghost use mathlib.Core.Bool.{true, _&&_};
+ghost use Prim.Native.Nat.{_≤_};
+ghost use lib.ListN.{length};
+ghost use Rattle.wire.specs.Wire.{stored};
+ghost use Rattle.setup.specs.Setup.{sizeOf, inRule, sizeByte, smallerSize, isSetup, readSetup, flagsOf, setupBytes, setupInRule, writeSetupAnswer, writtenSetup, noAgreement, agreement};
+
+// "identifier f6ab0e18; version byte 1; a flags byte ..; send size; receive size"
+pub const IDENTIFIER: u32 = 0xf6ab0e18;
+
+pub const VERSION: u8 = 1;
+
+pub const VERSION_AT: usize = 4;
+
+pub const FLAGS_AT: usize = 5;
+
+pub const SEND_AT: usize = 6;
+
+pub const RECEIVE_AT: usize = 7;
+
+pub const SETUP_BYTES: usize = 8;
+
+// The bytes that one message may have inline.
+pub struct Size(pub u32);
+
+impl Size {
+    // "a multiple of 1,024 from 1,024 to 262,144"
+    pub const SMALLEST: u32 = 1024;
+
+    pub const LARGEST: u32 = 262144;
+
+    pub const UNIT: u32 = 1024;
+
+    // "A size byte n means (n + 1) × 1,024."
+    pub fn from_byte(n: u8) -> Size
+        ensures { λ r. ⌜ r ≡ sizeOf n ⌝ }
+    {
+        Size((n as u32 + 1) * Size::UNIT)
+    }
+
+    // Whether a size is one that a size byte can mean.
+    pub fn in_rule(self) -> bool
+        ensures { λ r. ⌜ r ≡ inRule self ⌝ }
+    {
+        if self.0 < Size::SMALLEST {
+            return false;
+        }
+        if Size::LARGEST < self.0 {
+            return false;
+        }
+        self.0 % Size::UNIT == 0
+    }
+
+    // The byte that means a size.
+    pub fn to_byte(self) -> u8
+        requires { ⌜ inRule self ≡ true ⌝ }
+        ensures { λ r. ⌜ r ≡ sizeByte self ⌝ }
+    {
+        (self.0 / Size::UNIT - 1) as u8
+    }
+
+    // The smaller of two sizes.
+    pub fn smaller(self, other: Size) -> Size
+        ensures { λ r. ⌜ r ≡ smallerSize self other ⌝ }
+    {
+        if self.0 <= other.0 {
+            return self;
+        }
+        other
+    }
+}
+
+// What one side says of itself.
+pub struct Setup {
+    pub remote_invalidation: bool,
+    pub send: Size,
+    pub receive: Size,
+}
+
+pub struct SetupAnswer {
+    pub setup: Setup,
+    pub present: bool,
+    pub number: u32,
+}
+
+// What holds between two sides.
+pub struct Agreement {
+    pub client_to_server: Size,
+    pub server_to_client: Size,
+    pub remote_invalidation: bool,
+    pub number: u32,
+}
+
+// Whether these bytes begin with setup data.
+fn is_setup(s: &[u8]) -> bool
+    ensures { λ r. ⌜ r ≡ isSetup (now (s .entry)) ⌝ }
+{
+    if s.len() < SETUP_BYTES {
+        return false;
+    }
+    if wire::word_at(s, 0) != IDENTIFIER {
+        return false;
+    }
+    s[VERSION_AT] == VERSION
+}
+
+// Reads setup data.
+pub fn read_setup(s: &[u8]) -> SetupAnswer
+    ensures { λ r. ⌜ r ≡ readSetup (now (s .entry)) ⌝ }
+{
+    if !is_setup(s) {
+        return SetupAnswer {
+            setup: Setup {
+                remote_invalidation: false,
+                send: Size(Size::SMALLEST),
+                receive: Size(Size::SMALLEST),
+            },
+            present: false,
+            number: 0,
+        };
+    }
+    SetupAnswer {
+        setup: Setup {
+            remote_invalidation: s[FLAGS_AT] % 2 == 1,
+            send: Size::from_byte(s[SEND_AT]),
+            receive: Size::from_byte(s[RECEIVE_AT]),
+        },
+        present: true,
+        number: 0,
+    }
+}
+
+// Whether both sizes of a side are in rule.
+fn setup_in_rule(x: Setup) -> bool
+    ensures { λ r. ⌜ r ≡ setupInRule x ⌝ }
+{
+    let send = x.send;
+    let receive = x.receive;
+    if !send.in_rule() {
+        return false;
+    }
+    receive.in_rule()
+}
+
+// The flags byte: R, and all others 0.
+fn flags_of(invalidation: bool) -> u8
+    ensures { λ r. ⌜ r ≡ flagsOf invalidation ⌝ }
+{
+    if invalidation {
+        return 1;
+    }
+    0
+}
+
+// Writes setup data that has passed its checks.
+fn put_setup(out: &mut [u8], x: Setup)
+    requires { ⌜ (setupInRule x ≡ true) × (8 ≤ length (now out)) ⌝ }
+    ensures { λ _. ⌜ now (out .exit) ≡ stored (now (out .entry)) 0 (setupBytes x) ⌝ }
+{
+    let send = x.send;
+    let receive = x.receive;
+    let flags = flags_of(x.remote_invalidation);
+    let send_byte = send.to_byte();
+    let receive_byte = receive.to_byte();
+    wire::put_word(out, 0, IDENTIFIER);
+    out[VERSION_AT] = VERSION;
+    out[FLAGS_AT] = flags;
+    out[SEND_AT] = send_byte;
+    out[RECEIVE_AT] = receive_byte;
+}
+
+// Writes setup data at the front of a buffer and keeps the bytes behind it.
+pub fn write_setup(x: Setup, out: &mut [u8]) -> WriteAnswer
+    ensures answer { λ r. ⌜ r ≡ writeSetupAnswer x (length (now (out .entry))) ⌝ }
+    ensures buffer { λ _. ⌜ now (out .exit) ≡ writtenSetup x (now (out .entry)) ⌝ }
+{
+    if !setup_in_rule(x) {
+        return WriteAnswer {
+            number: wire::BAD_ARGUMENT,
+            length: 0,
+        };
+    }
+    if out.len() < SETUP_BYTES {
+        return WriteAnswer {
+            number: wire::BUFFER_SHORT,
+            length: 0,
+        };
+    }
+    put_setup(out, x);
+    WriteAnswer {
+        number: 0,
+        length: SETUP_BYTES,
+    }
+}
+
+fn both(a: bool, b: bool) -> bool
+    ensures { λ r. ⌜ r ≡ (a && b) ⌝ }
+{
+    if a {
+        return b;
+    }
+    false
+}
+
+// What two sides get of which one names a size out of rule.
+pub fn no_agreement() -> Agreement
+    ensures { λ r. ⌜ r ≡ noAgreement ⌝ }
+{
+    Agreement {
+        client_to_server: Size(0),
+        server_to_client: Size(0),
+        remote_invalidation: false,
+        number: wire::BAD_ARGUMENT,
+    }
+}
+
+// What follows from the setup data of both sides.
+pub fn agree(client: Setup, server: Setup) -> Agreement
+    ensures { λ r. ⌜ r ≡ agreement client server ⌝ }
+{
+    if !setup_in_rule(client) {
+        return no_agreement();
+    }
+    if !setup_in_rule(server) {
+        return no_agreement();
+    }
+    let client_send = client.send;
+    let client_receive = client.receive;
+    let server_send = server.send;
+    let server_receive = server.receive;
+    Agreement {
+        client_to_server: client_send.smaller(server_receive),
+        server_to_client: server_send.smaller(client_receive),
+        remote_invalidation: both(client.remote_invalidation, server.remote_invalidation),
+        number: 0,
+    }
+}

@@ -1,0 +1,19 @@
+-- Numbers given in order, and what every writer answers (document 01, "The numbers and their order").
+use Prim.Native.Nat.{ℕ}
+use mathlib.Core.Bool.{Bool, cond}
+use mathlib.Core.List.{List, _++_}
+use lib.ListN.{length, drop}
+use lib.Dec.{eqb}
+use Rattle.wire.specs.declared.WriteAnswer.{WriteAnswer}
+
+-- The number n is given unless the condition holds; then the next check decides.
+abbrev pub check : Bool → ℕ → ℕ → ℕ
+check holds n next = cond holds next n
+
+-- "A refused call returns its number .. and for all else zeros": a writer's number, and with 0 how many bytes it wrote.
+abbrev pub writerAnswer : ℕ → List ℕ → WriteAnswer
+writerAnswer number bytes = record { number = number; length = cond (eqb number 0) (length bytes) 0 }
+
+-- "Every writer keeps the buffer's bytes behind what it wrote."; a refused call leaves the buffer as it was.
+abbrev pub writerBuffer : ℕ → List ℕ → List ℕ → List ℕ
+writerBuffer number bytes out = cond (eqb number 0) (bytes ++ drop (length bytes) out) out
