@@ -19,11 +19,11 @@ instructions() {
     echo $(((many - few) / 10000))
 }
 
-printf '%-6s %-8s %9s %9s %7s %9s %9s %7s\n' \
-    call frame 'lib ins' 'plain ins' ratio 'lib ns' 'plain ns' ratio
-"$bench" | tail -n +2 | while read -r call frame lib plain ratio; do
-    a=$(instructions "lib-$call" "$frame")
-    b=$(instructions "plain-$call" "$frame")
+printf '%-11s %-8s %9s %9s %7s %9s %9s %7s\n' \
+    call input 'lib ins' 'plain ins' ratio 'lib ns' 'plain ns' ratio
+"$bench" | tail -n +2 | while read -r call input lib plain ratio; do
+    a=$(instructions "lib-$call" "$input")
+    b=$(instructions "plain-$call" "$input")
     r=$(echo "$a $b" | awk '{ if ($2 + 0 > 0) printf "%.2f", $1 / $2; else print "-" }')
-    printf '%-6s %-8s %9s %9s %7s %9s %9s %7s\n' "$call" "$frame" "$a" "$b" "$r" "$lib" "$plain" "$ratio"
+    printf '%-11s %-8s %9s %9s %7s %9s %9s %7s\n' "$call" "$input" "$a" "$b" "$r" "$lib" "$plain" "$ratio"
 done

@@ -8,10 +8,12 @@ use Rattle.header.specs.Content.{headerOf, contentOf, runs}
 use Rattle.header.specs.Frame.{threeParts, byProcedure, readFrame}
 use Rattle.writer.specs.Bytes.{headerBytes, fixedBytes, readListBytes, writeListBytes, replyBytes, chunkBytes, countedBytes, entryBytes}
 use Rattle.writer.specs.Write.{writeAnswer, writtenInto, writeNumber, withinLimits, total}
+use Rattle.setup.specs.Setup.{isSetup, readSetup}
+use Rattle.reply.specs.Reply.{granted, grantAnswer, replyKindOf, replyKindFor, errorReply, errorReplyNumber, errorReplyAnswer, errorReplyInto}
 use Rattle.claims.specs.RoundTrip.{All}
 use Rattle.claims.specs.Examples.{Holds, examples}
 
 -- "C1 to C13 are proved from the definitions as one list with one claim over it."
 pub worked : All Holds examples
-unfolding All words joined wordBytes readFrame byProcedure threeParts readList readEntry segments counted each writeList replyChunk markerOf wordOf wordAt segmentAt readSegmentAt writeAnswer writtenInto writeNumber withinLimits total positionsNumber headerOf contentOf runs headerBytes fixedBytes readListBytes writeListBytes replyBytes chunkBytes countedBytes entryBytes segmentBytes readSegmentBytes
-worked = ((refl, refl), ((refl, refl), ((refl, refl), ((refl, refl), ((refl, refl), ((refl, refl), tt))))))
+unfolding All words joined wordBytes readFrame byProcedure threeParts readList readEntry segments counted each writeList replyChunk markerOf wordOf wordAt segmentAt readSegmentAt writeAnswer writtenInto writeNumber withinLimits total positionsNumber headerOf contentOf runs headerBytes fixedBytes readListBytes writeListBytes replyBytes chunkBytes countedBytes entryBytes segmentBytes readSegmentBytes isSetup readSetup granted grantAnswer replyKindOf replyKindFor errorReply errorReplyNumber errorReplyAnswer errorReplyInto
+worked = ((refl, refl), ((refl, refl), ((refl, refl), ((refl, refl), ((refl, refl), ((refl, refl), (refl, (refl, (refl, (refl, ((refl, refl), tt)))))))))))

@@ -8,3 +8,5 @@ pub mod Holding
 pub mod Writing
 pub mod RoundTrip
 pub mod Examples
+pub mod Setup
+pub mod Replies

@@ -12,6 +12,7 @@ use lib.Seq.{drop-drop}
 use lib.Dec.{leb, eqb}
 use Rattle.wire.specs.Wire.{wordAt, segmentAt, wordBytes, segmentBytes, readSegmentBytes, joined}
 use Rattle.wire.specs.Answers.{check}
+use Rattle.wire.proofs.Laws.{check-passed}
 use Rattle.lists.specs.Parsed.{done, each}
 use Rattle.lists.specs.Lists.{markerOf, readEntry, readList, positionsNumber, segments, counted, writeList, replyChunk}
 use Rattle.writer.specs.Bytes.{entryBytes, countedBytes, chunkBytes, readListBytes, writeListBytes, replyBytes, errorBytes, procedureOf, restBytes, fixedBytes, headerBytes}
@@ -39,11 +40,6 @@ pub marker-entry : (r : List ℕ) → markerOf (wordBytes 1 ++ r) ≡ marker.Ent
 unfolding markerOf
 marker-entry r = simp (word-of-back 1 r (omega arith))
 
--- A check that gave 0 has passed.
-pub check-passed : (holds : Bool) (n next : ℕ) → check holds (suc n) next ≡ 0 → (holds ≡ true) × (next ≡ 0)
-check-passed true n next e = (refl, e)
-check-passed false n next e = absurd (omega arith)
-
 -- The rule of positionsNumber, at the first entry of a list and at the others.
 pub record Rises (last : ℕ) (x : ReadSegment) (l : List ReadSegment) : Type 0 where
   pub aligned : eqb (x .position % 4) 0 ≡ true
@@ -54,8 +50,8 @@ pub record Rises (last : ℕ) (x : ReadSegment) (l : List ReadSegment) : Type 0 
 pub rises : (last : ℕ) (x : ReadSegment) (l : List ReadSegment) → positionsNumber last (x ∷ l) 0 ≡ 0 → Rises last x l
 unfolding positionsNumber
 rises last x l e =
-    let a : (eqb (x .position % 4) 0 ≡ true) × (check (leb last (x .position)) 8 (positionsNumber (x .position) l 0) ≡ 0) = check-passed _ 8 _ e in
-    let b : (leb last (x .position) ≡ true) × (positionsNumber (x .position) l 0 ≡ 0) = check-passed _ 7 _ (a .1) in
+    let a : (eqb (x .position % 4) 0 ≡ true) × (check (leb last (x .position)) 8 (positionsNumber (x .position) l 0) ≡ 0) = check-passed _ 9 _ (omega arith) e in
+    let b : (leb last (x .position) ≡ true) × (positionsNumber (x .position) l 0 ≡ 0) = check-passed _ 8 _ (omega arith) (a .1) in
     record { aligned = a .0; above = b .0; onward = b .1 }
 
 -- An entry of the read list that was written is read.

@@ -9,6 +9,7 @@ use borrow.Author.Tests.{le-leb}
 use lib.ListN.{length, drop, length-drop}
 use lib.Seq.{getD-drop, drop-drop}
 use Rattle.wire.specs.Wire.{joinBytes, wordAt, wordOf, segmentAt, readSegmentAt, wordBytes, segmentBytes, readSegmentBytes}
+use Rattle.wire.proofs.Laws.{word-drop}
 use Rattle.claims.specs.RoundTrip.{AllBytes, Word32, SegmentFits, ReadSegmentFits}
 use Rattle.wire.specs.declared.Word.the-variants.{Value}
 use Rattle.wire.specs.declared.Segment.{Segment}
@@ -51,11 +52,6 @@ bytes-drop n s b k = rw getD-drop (b (n + k))
 pub word-fits : (s : List ℕ) (k : ℕ) → AllBytes s → Word32 (wordAt s k)
 unfolding wordAt AllBytes
 word-fits s k b = omega (arith, b k, b (k + 1), b (k + 2), b (k + 3))
-
--- A word of the bytes behind n bytes.
-pub word-drop : (n : ℕ) (s : List ℕ) (k : ℕ) → wordAt (drop n s) k ≡ wordAt s (n + k)
-unfolding wordAt
-word-drop n s k = simp (getD-drop, add-assoc)
 
 -- The first word of some bytes is what stands there.
 word-first : (s : List ℕ) → AllBytes s → 4 ≤ length s → wordBytes (wordAt s 0) ++ drop 4 s ≡ s

@@ -25,9 +25,9 @@ use Rattle.wire.specs.declared.ReadSegment.{ReadSegment}
 use Rattle.header.specs.declared.Header.{Header}
 use Rattle.claims.proofs.Allowed.{ReplyAllowed, Allowed, BareIfError}
 use Rattle.claims.proofs.Words.{length-word, length-read-segment}
-use Rattle.claims.proofs.ReadBack.{check-passed, read-entry-first, chunk-first, length-segments}
+use Rattle.claims.proofs.ReadBack.{read-entry-first, chunk-first, length-segments}
 use Rattle.claims.proofs.Contents.{all-take, all-runs, lengths-runs, contentOf-headerOf, counts-held, Within, chunks-same}
-use Rattle.wire.proofs.Laws.{both-hold}
+use Rattle.wire.proofs.Laws.{both-hold, check-passed}
 use Rattle.writer.proofs.Laws.{positions-zero}
 
 -- What every check asks of a header that is written into `room` bytes.
@@ -45,14 +45,14 @@ pub record Passed (h : Header) (room : ℕ) : Type 0 where
 pub write-passed : (h : Header) (room : ℕ) → writeNumber h room ≡ 0 → Passed h room
 unfolding writeNumber withinLimits
 write-passed h room e =
-    let a = check-passed (bareIfError (h .kind) (h .reads .count) (h .writes .chunks) (h .reply .present)) 11 _ e in
-    let k = check-passed (withinLimits (h .reads .count) (h .writes .chunks) (h .writes .counts) (h .reply .present) (h .reply .count)) 6 _ (a .1) in
+    let a = check-passed (bareIfError (h .kind) (h .reads .count) (h .writes .chunks) (h .reply .present)) 12 _ (omega arith) e in
+    let k = check-passed (withinLimits (h .reads .count) (h .writes .chunks) (h .writes .counts) (h .reply .present) (h .reply .count)) 7 _ (omega arith) (a .1) in
     let b = both-hold (leb (h .reads .count) 16) _ (k .0) in
     let c = both-hold (leb (h .writes .chunks) 4) _ (b .1) in
     let d = both-hold (leb (total (take (h .writes .chunks) (h .writes .counts))) 16) _ (c .1) in
     let next = positions-zero 0 (contentOf h .reads) _ (k .1) in
-    let g = check-passed (leb (length (headerBytes (contentOf h))) 1024) 20 _ next in
-    let i = check-passed (leb (length (headerBytes (contentOf h))) room) 15 _ (g .1) in
+    let g = check-passed (leb (length (headerBytes (contentOf h))) 1024) 21 _ (omega arith) next in
+    let i = check-passed (leb (length (headerBytes (contentOf h))) room) 16 _ (omega arith) (g .1) in
     record {
       bare = a .0;
       reads = leb-true _ _ (b .0);

@@ -338,7 +338,12 @@ pub extern "C" fn eos_grant(asked: u32, limit: u32) -> GrantAnswer
 
 // Writes the reply to a frame that got an answer number, if there is one.
 #[no_mangle]
-pub extern "C" fn eos_error_reply(frame: &[u8], number: u32, limit: u32, out: &mut [u8]) -> WriteAnswer
+pub extern "C" fn eos_error_reply(
+    frame: &[u8],
+    number: u32,
+    limit: u32,
+    out: &mut [u8],
+) -> WriteAnswer
     ensures answer { λ r. ⌜ r ≡ errorReplyAnswer (now (frame .entry)) number limit (length (now (out .entry))) ⌝ }
     ensures buffer { λ _. ⌜ now (out .exit) ≡ errorReplyInto (now (frame .entry)) number limit (now (out .entry)) ⌝ }
 {

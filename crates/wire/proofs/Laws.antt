@@ -3,11 +3,12 @@
 use mathlib.Core.Path.{_≡_, refl, _∙_}
 use mathlib.Core.Bool.{Bool, true, false, _&&_}
 use mathlib.Core.List.{List, [], _∷_, _++_}
-use Prim.Native.Nat.{ℕ, suc, _+_, _-_, _≤_}
+use Prim.Native.Nat.{ℕ, suc, _+_, _-_, _≤_, _<_}
 use native.Mathlib.Nat.{add-zero, zero-add, add-suc, suc-add, add-assoc, le-refl}
 use native.Mathlib.Omega.{arith}
 use lib.ListN.{length, take, drop, set, length-drop}
 use lib.Seq.{take-all, getD-drop, sets-eq}
+use Rattle.wire.specs.Answers.{check}
 use Rattle.wire.specs.Wire.{stored, wordAt, segmentAt, readSegmentAt}
 
 -- The part of a slice from k on.
@@ -33,6 +34,11 @@ stored-front l v h = sets-eq v l 0 (omega arith) ∙ rw zero-add
 pub both-hold : (a b : Bool) → (a && b) ≡ true → (a ≡ true) × (b ≡ true)
 both-hold true b h = (refl, h)
 both-hold false b h = absurd (let z : _≡_ {A = ℕ} 0 1 = cc in omega arith)
+
+-- A check that gives 0 was passed.
+pub check-passed : (holds : Bool) (n next : ℕ) → 0 < n → check holds n next ≡ 0 → (holds ≡ true) × (next ≡ 0)
+check-passed true n next p e = (refl, e)
+check-passed false n next p e = absurd (omega arith)
 
 -- What stands behind k bytes: a word, a segment, a read segment.
 pub word-drop : (k j : ℕ) (s : List ℕ) → wordAt (drop k s) j ≡ wordAt s (k + j)

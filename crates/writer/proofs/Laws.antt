@@ -20,7 +20,7 @@ use borrow.Author.Needs.{needs}
 use Rattle.wire.specs.Wire.{stored, joined, wordBytes, segmentBytes, readSegmentBytes}
 use Rattle.wire.specs.declared.Segment.{Segment}
 use Rattle.wire.specs.declared.ReadSegment.{ReadSegment}
-use Rattle.wire.proofs.Laws.{both-hold}
+use Rattle.wire.proofs.Laws.{both-hold, check-passed}
 use Rattle.wire.proofs.Segment as segment
 use Rattle.wire.proofs.ReadSegment as read-segment
 use Rattle.wire.specs.Answers.{check}
@@ -254,24 +254,19 @@ header-size h rest e = rw (header-of h rest e, length-append, fixed-length)
 pub sized : (h : Header) (r : ℕ) → Passed (h .reads) (h .writes) (h .reply) → ((parts : List ℕ) → length parts ≡ partsSize (h .reads) (h .writes) (h .reply) → r ≡ 16 + length (restBytes (h .kind) parts)) → length (headerBytes (contentOf h)) ≡ r
 sized h r known claim = header-size h _ refl ∙ sym (claim _ (parts-length (h .reads) (h .writes) (h .reply) known))
 
--- A check that gives 0 was passed.
-check-zero : (a : Bool) (n next : ℕ) → 0 < n → check a n next ≡ 0 → (a ≡ true) × (next ≡ 0)
-check-zero true n next p h = (refl, h)
-check-zero false n next p h = absurd (omega arith)
-
 -- Positions that give 0 were in order.
 pub positions-zero : (last : ℕ) (l : List ReadSegment) (next : ℕ) → positionsNumber last l next ≡ 0 → next ≡ 0
 unfolding positionsNumber
 positions-zero last [] next h = h
 positions-zero last (x ∷ xs) next h =
-    positions-zero (x .position) xs next (check-zero (leb last (x .position)) 8 _ (omega arith) (check-zero (eqb (x .position % 4) 0) 9 _ (omega arith) h .1) .1)
+    positions-zero (x .position) xs next (check-passed (leb last (x .position)) 8 _ (omega arith) (check-passed (eqb (x .position % 4) 0) 9 _ (omega arith) h .1) .1)
 
 -- With the number 0 a header is within its limits, and there is room for it.
 pub accepted : (h : Header) (room : ℕ) → writeNumber h room ≡ 0 → (withinLimits (h .reads .count) (h .writes .chunks) (h .writes .counts) (h .reply .present) (h .reply .count) ≡ true) × (length (headerBytes (contentOf h)) ≤ room)
 unfolding writeNumber
 accepted h room e =
     let n = length (headerBytes (contentOf h)) in
-    let a = check-zero (bareIfError (h .kind) (h .reads .count) (h .writes .chunks) (h .reply .present)) 12 _ (omega arith) e .1 in
-    let b = check-zero (withinLimits (h .reads .count) (h .writes .chunks) (h .writes .counts) (h .reply .present) (h .reply .count)) 7 _ (omega arith) a in
-    let d = check-zero (leb n 1024) 21 _ (omega arith) (positions-zero 0 (contentOf h .reads) _ (b .1)) .1 in
-    (b .0, leb-true n room (check-zero (leb n room) 16 0 (omega arith) d .0))
+    let a = check-passed (bareIfError (h .kind) (h .reads .count) (h .writes .chunks) (h .reply .present)) 12 _ (omega arith) e .1 in
+    let b = check-passed (withinLimits (h .reads .count) (h .writes .chunks) (h .writes .counts) (h .reply .present) (h .reply .count)) 7 _ (omega arith) a in
+    let d = check-passed (leb n 1024) 21 _ (omega arith) (positions-zero 0 (contentOf h .reads) _ (b .1)) .1 in
+    (b .0, leb-true n room (check-passed (leb n room) 16 0 (omega arith) d .0))

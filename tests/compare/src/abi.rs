@@ -1,6 +1,7 @@
 //! The flat structs of the C boundary, their natural counterparts, and the library's calls.
 
 use crate::oracle::{self, Fault, Header, Kind, ReadSegment, Reply, Segment};
+use crate::setup::{Agreement, Setup};
 
 pub const MSG: u32 = 0;
 pub const NOMSG: u32 = 1;
@@ -51,8 +52,43 @@ pub struct WriteAnswer {
     pub length: usize,
 }
 
+/// Flags are 0 or 1, sizes in bytes.
+#[repr(C)]
+#[derive(Clone, Copy, Debug, Default, PartialEq, Eq)]
+pub struct FlatSetup {
+    pub remote_invalidation: u32,
+    pub send: u32,
+    pub receive: u32,
+}
+
+#[repr(C)]
+#[derive(Clone, Copy, Debug, PartialEq, Eq)]
+pub struct FlatSetupAnswer {
+    pub setup: FlatSetup,
+    pub present: u32,
+    pub number: u32,
+}
+
+#[repr(C)]
+#[derive(Clone, Copy, Debug, Default, PartialEq, Eq)]
+pub struct FlatAgreement {
+    pub client_to_server: u32,
+    pub server_to_client: u32,
+    pub remote_invalidation: u32,
+    pub number: u32,
+}
+
+#[repr(C)]
+#[derive(Clone, Copy, Debug, Default, PartialEq, Eq)]
+pub struct FlatGrant {
+    pub credit: u32,
+    pub number: u32,
+}
+
 const _: () = assert!(size_of::<Segment>() == 16 && size_of::<ReadSegment>() == 24);
 const _: () = assert!(size_of::<Flat>() == 952 && size_of::<ReadAnswer>() == 960);
+const _: () = assert!(size_of::<FlatSetup>() == 12 && size_of::<FlatSetupAnswer>() == 20);
+const _: () = assert!(size_of::<FlatAgreement>() == 16 && size_of::<FlatGrant>() == 8);
 
 /// A header within the limits, unused places zero.
 pub fn flatten(header: &Header) -> Flat {
@@ -116,15 +152,56 @@ fn cut<T: Default>(mut places: impl Iterator<Item = T>, count: u32, limit: usize
     (0..(count as usize).min(limit + 1)).map(|_| places.next().unwrap_or_default()).collect()
 }
 
+pub fn flatten_setup(setup: &Setup) -> FlatSetup {
+    let remote_invalidation = u32::from(setup.remote_invalidation);
+    FlatSetup { remote_invalidation, send: setup.send, receive: setup.receive }
+}
+
+/// The natural setup of a flat one, or 20 as the boundary has it.
+pub fn unflatten_setup(flat: &FlatSetup) -> Result<Setup, u32> {
+    let remote_invalidation = match flat.remote_invalidation {
+        0 => false,
+        1 => true,
+        _ => return Err(20),
+    };
+    Ok(Setup { remote_invalidation, send: flat.send, receive: flat.receive })
+}
+
+/// The flat answer to an agreement; a refused one is zero but for its number.
+pub fn flatten_agreement(outcome: Result<Agreement, u32>) -> FlatAgreement {
+    let (agreement, number) = match outcome {
+        Ok(agreement) => (agreement, 0),
+        Err(number) => (Agreement::default(), number),
+    };
+    FlatAgreement {
+        client_to_server: agreement.client_to_server,
+        server_to_client: agreement.server_to_client,
+        remote_invalidation: u32::from(agreement.remote_invalidation),
+        number,
+    }
+}
+
 #[cfg(port)]
 mod library {
-    use super::{Flat, Part, ReadAnswer, WriteAnswer};
+    use super::{Flat, FlatAgreement, FlatGrant, FlatSetup, FlatSetupAnswer, Part, ReadAnswer, WriteAnswer};
     use crate::check::Port;
 
     extern "C" {
         fn eos_read_header(frame: *const u8, frame_len: usize) -> ReadAnswer;
         fn eos_payload(frame: *const u8, frame_len: usize) -> Part;
         fn eos_write_header(h: Flat, out: *mut u8, out_len: usize) -> WriteAnswer;
+        fn eos_read_setup(data: *const u8, data_len: usize) -> FlatSetupAnswer;
+        fn eos_write_setup(setup: FlatSetup, out: *mut u8, out_len: usize) -> WriteAnswer;
+        fn eos_agree(client: FlatSetup, server: FlatSetup) -> FlatAgreement;
+        fn eos_grant(asked: u32, limit: u32) -> FlatGrant;
+        fn eos_error_reply(
+            frame: *const u8,
+            frame_len: usize,
+            number: u32,
+            limit: u32,
+            out: *mut u8,
+            out_len: usize,
+        ) -> WriteAnswer;
     }
 
     pub struct Library;
@@ -144,6 +221,33 @@ mod library {
         #[inline(always)]
         fn write(&self, header: &Flat, out: &mut [u8]) -> WriteAnswer {
             unsafe { eos_write_header(*header, out.as_mut_ptr(), out.len()) }
+        }
+
+        #[inline(always)]
+        fn read_setup(&self, data: &[u8]) -> FlatSetupAnswer {
+            unsafe { eos_read_setup(data.as_ptr(), data.len()) }
+        }
+
+        #[inline(always)]
+        fn write_setup(&self, setup: FlatSetup, out: &mut [u8]) -> WriteAnswer {
+            unsafe { eos_write_setup(setup, out.as_mut_ptr(), out.len()) }
+        }
+
+        #[inline(always)]
+        fn agree(&self, client: FlatSetup, server: FlatSetup) -> FlatAgreement {
+            unsafe { eos_agree(client, server) }
+        }
+
+        #[inline(always)]
+        fn grant(&self, asked: u32, limit: u32) -> FlatGrant {
+            unsafe { eos_grant(asked, limit) }
+        }
+
+        #[inline(always)]
+        fn error_reply(&self, frame: &[u8], number: u32, limit: u32, out: &mut [u8]) -> WriteAnswer {
+            unsafe {
+                eos_error_reply(frame.as_ptr(), frame.len(), number, limit, out.as_mut_ptr(), out.len())
+            }
         }
     }
 }

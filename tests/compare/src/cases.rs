@@ -1,4 +1,8 @@
 //! The families of cases. Fixed sets first, then `cases` random ones in each random family.
+//! Those of setup data, and those of grants and error replies, have files of their own.
+
+pub mod reply;
+pub mod setup;
 
 use crate::abi::{flatten, unflatten, Flat, ERROR_VERSION};
 use crate::check::{Checker, Outcome, Port, Rng};
@@ -81,6 +85,25 @@ impl Rng {
             let end = frame.len();
             frame.resize(end + self.below(most + 1), 0);
             self.fill(&mut frame[end..]);
+        }
+        frame
+    }
+
+    /// A valid header's frame with a few words or bytes changed, put in, taken out or cut off.
+    fn edited(&mut self) -> Vec<u8> {
+        let header = self.valid();
+        let mut frame = self.frame(&header, 12);
+        for _ in 0..1 + self.below(3) {
+            let whole = frame.len() / 4;
+            let at = self.below(whole.max(1));
+            match self.below(7) {
+                0 | 1 if whole > 0 => put(&mut frame, at, self.word()),
+                2 if whole > 0 => frame[4 * at + self.below(4)] ^= 1 << self.below(8),
+                3 if whole > 0 => drop(frame.drain(4 * at..4 * at + 4)),
+                4 => drop(frame.splice(4 * at..4 * at, self.word().to_be_bytes())),
+                5 => frame.truncate(self.below(frame.len() + 1)),
+                _ => frame.push(self.draw() as u8),
+            }
         }
         frame
     }
@@ -348,24 +371,7 @@ fn random_frames<P: Port>(check: &mut Checker<P>, rng: &mut Rng, cases: u64) -> 
         check.read(&words(&list))?;
     }
     check.family("read edited frames");
-    for _ in 0..cases {
-        let header = rng.valid();
-        let mut frame = rng.frame(&header, 12);
-        for _ in 0..1 + rng.below(3) {
-            let whole = frame.len() / 4;
-            let at = rng.below(whole.max(1));
-            match rng.below(7) {
-                0 | 1 if whole > 0 => put(&mut frame, at, rng.word()),
-                2 if whole > 0 => frame[4 * at + rng.below(4)] ^= 1 << rng.below(8),
-                3 if whole > 0 => drop(frame.drain(4 * at..4 * at + 4)),
-                4 => drop(frame.splice(4 * at..4 * at, rng.word().to_be_bytes())),
-                5 => frame.truncate(rng.below(frame.len() + 1)),
-                _ => frame.push(rng.draw() as u8),
-            }
-        }
-        check.read(&frame)?;
-    }
-    Ok(())
+    (0..cases).try_for_each(|_| check.read(&rng.edited()))
 }
 
 /// One fault, or a change that makes room for another, in a header to be written.
@@ -466,8 +472,7 @@ fn random_headers<P: Port>(check: &mut Checker<P>, rng: &mut Rng, cases: u64) ->
     Ok(())
 }
 
-pub fn run<P: Port>(check: &mut Checker<P>, seed: u64, cases: u64) -> Outcome {
-    let rng = &mut Rng(seed);
+pub fn headers<P: Port>(check: &mut Checker<P>, rng: &mut Rng, cases: u64) -> Outcome {
     shapes(check, rng, cases)?;
     damage(check, rng)?;
     fixed_words(check, rng)?;
@@ -476,4 +481,11 @@ pub fn run<P: Port>(check: &mut Checker<P>, seed: u64, cases: u64) -> Outcome {
     random_frames(check, rng, cases)?;
     faulty_headers(check, rng)?;
     random_headers(check, rng, cases)
+}
+
+pub fn run<P: Port>(check: &mut Checker<P>, seed: u64, cases: u64) -> Outcome {
+    let rng = &mut Rng(seed);
+    headers(check, rng, cases)?;
+    setup::run(check, rng, cases)?;
+    reply::run(check, rng, cases)
 }

@@ -1,10 +1,13 @@
-//! A second implementation of the header's reading and writing, and the means to compare.
+//! A second implementation of the calls on headers, setup data, credits and error replies,
+//! and the means to compare.
 
 pub mod abi;
 pub mod cases;
 pub mod check;
 pub mod oracle;
 pub mod plain;
+pub mod reply;
+pub mod setup;
 pub mod vectors;
 
 #[cfg(test)]

@@ -1,8 +1,9 @@
-//! Compares the static library's reading and writing of headers with a second implementation.
+//! Compares the static library's calls (headers, setup data, agreement, grant, error reply) with
+//! a second implementation.
 //! Build with EOS_LIB_DIR naming the folder of libport.a; options: --cases N (cases in each
 //! random family), --seed S, --vectors FILE (else what EOS_VECTORS names).
-//! One line for each family, then the numbers seen and the total; the first difference is
-//! printed with its input and ends the run with status 1, as does a number never seen.
+//! One line for each family, then the numbers and forms seen and the total; the first difference
+//! is printed with its input and ends the run with status 1, as does one of them never seen.
 
 #[cfg(not(port))]
 compile_error!("set EOS_LIB_DIR to the folder that holds libport.a");
@@ -42,10 +43,7 @@ fn main() -> ExitCode {
         println!("DIFFERENCE in family: {}\n{difference}", check.name());
         return ExitCode::FAILURE;
     }
-    for (name, numbers) in [("read", &check.read_numbers), ("write", &check.write_numbers)] {
-        let list: Vec<String> = numbers.iter().map(|(number, seen)| format!("{number}:{seen}")).collect();
-        println!("{name} numbers: {}", list.join(" "));
-    }
+    check.seen.lines().iter().for_each(|line| println!("{line}"));
     let unseen = check.unseen();
     if !unseen.is_empty() {
         println!("NEVER SEEN\n{}", unseen.join("\n"));

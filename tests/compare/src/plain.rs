@@ -1,6 +1,7 @@
-//! The same checks straight between bytes and the flat struct, without allocation.
+//! The same checks straight between bytes and the flat structs, without allocation.
 
-use crate::abi::{Flat, Part, ReadAnswer, WriteAnswer, ERROR_CHUNK, ERROR_VERSION, MSG, NOMSG};
+use crate::abi::{Flat, FlatAgreement, FlatGrant, FlatSetup, FlatSetupAnswer, Part, ReadAnswer, WriteAnswer};
+use crate::abi::{ERROR_CHUNK, ERROR_VERSION, MSG, NOMSG};
 use crate::check::Port;
 use crate::oracle::{ReadSegment, Segment};
 
@@ -230,6 +231,112 @@ pub fn plain_write(flat: Flat, out: &mut [u8]) -> (u32, usize) {
     (0, need)
 }
 
+/// Identifier, version byte 1, and zeros for the flags and the size bytes.
+const SETUP: u64 = 0xf6ab_0e18_0100_0000;
+
+#[inline(never)]
+pub fn plain_read_setup(data: &[u8]) -> FlatSetupAnswer {
+    let mut setup = FlatSetup { remote_invalidation: 0, send: 1024, receive: 1024 };
+    let all = data.first_chunk::<8>().map_or(0, |bytes| u64::from_be_bytes(*bytes));
+    if all >> 24 != SETUP >> 24 {
+        return FlatSetupAnswer { setup, present: 0, number: 0 };
+    }
+    let all = all as u32;
+    setup.remote_invalidation = all >> 16 & 1;
+    setup.send += (all >> 8 & 0xff) << 10;
+    setup.receive += (all & 0xff) << 10;
+    FlatSetupAnswer { setup, present: 1, number: 0 }
+}
+
+/// The size byte of a size in rule, above 255 for any other:
+/// the low bits of no multiple of 1,024 become the highest.
+fn size_byte(size: u32) -> u32 {
+    size.wrapping_sub(1024).rotate_right(10)
+}
+
+fn out_of_rule(setup: &FlatSetup) -> bool {
+    setup.remote_invalidation > 1 || size_byte(setup.send) | size_byte(setup.receive) > 255
+}
+
+#[inline(never)]
+pub fn plain_write_setup(setup: FlatSetup, out: &mut [u8]) -> WriteAnswer {
+    if out_of_rule(&setup) {
+        return WriteAnswer { number: 20, length: 0 };
+    }
+    let Some(place) = out.first_chunk_mut::<8>() else {
+        return WriteAnswer { number: 16, length: 0 };
+    };
+    let low = setup.remote_invalidation << 16 | size_byte(setup.send) << 8 | size_byte(setup.receive);
+    *place = (SETUP | u64::from(low)).to_be_bytes();
+    WriteAnswer { number: 0, length: 8 }
+}
+
+#[inline(never)]
+pub fn plain_agree(client: FlatSetup, server: FlatSetup) -> FlatAgreement {
+    if out_of_rule(&client) || out_of_rule(&server) {
+        return FlatAgreement { number: 20, ..FlatAgreement::default() };
+    }
+    FlatAgreement {
+        client_to_server: client.send.min(server.receive),
+        server_to_client: server.send.min(client.receive),
+        remote_invalidation: client.remote_invalidation & server.remote_invalidation,
+        number: 0,
+    }
+}
+
+#[inline(never)]
+pub fn plain_grant(asked: u32, limit: u32) -> FlatGrant {
+    if limit == 0 {
+        return FlatGrant { credit: 0, number: 20 };
+    }
+    FlatGrant { credit: asked.clamp(1, limit), number: 0 }
+}
+
+#[derive(Clone, Copy, PartialEq)]
+enum ReplyKind {
+    None,
+    Version,
+    Chunk,
+}
+
+/// By answer number.
+const REPLIES: [ReplyKind; 22] = {
+    use ReplyKind::{Chunk as C, None as N, Version as V};
+    [N, N, V, C, N, C, C, C, C, C, N, C, C, C, C, C, N, N, N, N, N, N]
+};
+
+/// The fixed words and then the error's own; their lengths are known to the compiler.
+fn put_reply<const N: usize>(fixed: u128, error: [u8; N], out: &mut [u8]) -> WriteAnswer {
+    if let Some((start, behind)) = out.split_first_chunk_mut::<16>() {
+        if let Some(end) = behind.first_chunk_mut::<N>() {
+            (*start, *end) = (fixed.to_be_bytes(), error);
+            return WriteAnswer { number: 0, length: 16 + N };
+        }
+    }
+    WriteAnswer { number: 16, length: 0 }
+}
+
+#[inline(never)]
+pub fn plain_error_reply(frame: &[u8], number: u32, limit: u32, out: &mut [u8]) -> WriteAnswer {
+    let kind = match REPLIES.get(number as usize) {
+        Some(kind) if limit > 0 => *kind,
+        _ => return WriteAnswer { number: 20, length: 0 },
+    };
+    let none = WriteAnswer { number: 0, length: 0 };
+    let Some(fixed) = frame.first_chunk::<16>() else { return none };
+    let fixed = u128::from_be_bytes(*fixed);
+    let (xid, asked, procedure) = (fixed >> 96, (fixed >> 32) as u32, fixed as u32);
+    if procedure == 4 {
+        return none;
+    }
+    let fixed = xid << 96 | 1 << 64 | u128::from(asked.clamp(1, limit)) << 32 | 4;
+    match kind {
+        ReplyKind::None => none,
+        ReplyKind::Version => put_reply(fixed, [0, 0, 0, 1, 0, 0, 0, 1, 0, 0, 0, 1], out),
+        ReplyKind::Chunk => put_reply(fixed, [0, 0, 0, 2], out),
+    }
+}
+
 pub struct Plain;
 
 impl Port for Plain {
@@ -245,5 +352,25 @@ impl Port for Plain {
     fn write(&self, header: &Flat, out: &mut [u8]) -> WriteAnswer {
         let (number, length) = plain_write(*header, out);
         WriteAnswer { number, length }
+    }
+
+    fn read_setup(&self, data: &[u8]) -> FlatSetupAnswer {
+        plain_read_setup(data)
+    }
+
+    fn write_setup(&self, setup: FlatSetup, out: &mut [u8]) -> WriteAnswer {
+        plain_write_setup(setup, out)
+    }
+
+    fn agree(&self, client: FlatSetup, server: FlatSetup) -> FlatAgreement {
+        plain_agree(client, server)
+    }
+
+    fn grant(&self, asked: u32, limit: u32) -> FlatGrant {
+        plain_grant(asked, limit)
+    }
+
+    fn error_reply(&self, frame: &[u8], number: u32, limit: u32, out: &mut [u8]) -> WriteAnswer {
+        plain_error_reply(frame, number, limit, out)
     }
 }
