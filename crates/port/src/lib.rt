@@ -267,12 +267,12 @@ fn flat_setup_of(x: Setup) -> FlatSetup
 pub extern "C" fn eos_read_setup(bytes: &[u8]) -> FlatSetupAnswer
     ensures { λ r. ⌜ r ≡ flatSetupAnswer (readSetup (now (bytes .entry))) ⌝ }
 {
-    let answer = setup::read_setup(bytes);
-    let x = answer.setup;
+    let found = setup::read_setup(bytes);
+    let x = found.setup;
     FlatSetupAnswer {
         setup: flat_setup_of(x),
-        present: flag_number(answer.present),
-        number: answer.number,
+        present: flag_number(found.present),
+        number: found.number,
     }
 }
 

@@ -1,8 +1,8 @@
 -- Writing a header (document 01, "The numbers and their order").
 use Prim.Native.Nat.{ℕ, _+_}
 use mathlib.Core.Bool.{Bool, true, cond, not, _&&_}
-use mathlib.Core.List.{List, [], _∷_, _++_}
-use lib.ListN.{length, take, drop}
+use mathlib.Core.List.{List, [], _∷_}
+use lib.ListN.{length, take}
 use lib.Dec.{leb, eqb}
 use Rattle.wire.specs.Answers.{check, writerAnswer, writerBuffer}
 use Rattle.wire.specs.declared.WriteAnswer.{WriteAnswer}
