@@ -3,7 +3,7 @@
 use mathlib.Core.Path.{_≡_, refl, subst}
 use mathlib.Core.List.{List, [], append-nil}
 use mathlib.Core.Option.{some, Option·none-ne-some, Option·some-injective}
-use Prim.Native.Nat.{ℕ, _≤_, _<_, min, max}
+use Prim.Native.Nat.{ℕ, _≤_, min, max}
 use native.Mathlib.Nat.{min-le-right, max-le}
 use native.Mathlib.Omega.{arith}
 use borrow.Author.Tests.{le-leb}
@@ -15,7 +15,6 @@ use Rattle.lists.specs.Parsed.{done}
 use Rattle.header.specs.Content.{headerOf}
 use Rattle.header.specs.Frame.{readFrame, readAnswer, payloadOf, errorContent}
 use Rattle.header.specs.declared.ErrorKind.{ErrorKind}
-use Rattle.header.specs.declared.ErrorKind.the-variants as error
 use Rattle.writer.specs.Bytes.{headerBytes, fixedBytes, errorBytes}
 use Rattle.writer.specs.Write.{total}
 use Rattle.reply.specs.Reply.{granted, replyKindFor, replyWords, errorReply, errorReplyNumber, errorReplyAnswer, errorReplyInto}

@@ -11,7 +11,6 @@ use lib.ListN.{length, take}
 use lib.Seq.{length-take-le}
 use lib.Dec.{leb, eqb}
 use Rattle.wire.specs.Wire.{joined, wordBytes}
-use Rattle.wire.specs.Answers.{check}
 use Rattle.lists.specs.Lists.{positionsNumber}
 use Rattle.header.specs.Content.{Content, replyChunkOf, headerOf, runs, replyOf, contentOf}
 use Rattle.writer.specs.Bytes.{countedBytes, chunkBytes, readListBytes, writeListBytes, replyBytes, errorBytes, restBytes, fixedBytes, headerBytes}

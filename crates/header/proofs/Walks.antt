@@ -15,7 +15,7 @@ use Rattle.wire.specs.declared.Word.the-variants as word
 use Rattle.wire.specs.declared.Segment.{Segment}
 use Rattle.wire.specs.declared.ReadSegment.{ReadSegment}
 use Rattle.wire.proofs.Laws.{part-from, word-drop}
-use Rattle.lists.specs.Parsed.{Parsed, refused, done, each}
+use Rattle.lists.specs.Parsed.{Parsed, refused, done}
 use Rattle.lists.specs.Lists.{readList, writeList, replyChunk}
 use Rattle.lists.specs.Steps.{chunkStep, listWalk}
 use Rattle.lists.specs.declared.ListWalk.{ListWalk}

@@ -1,59 +1,43 @@
+-- `port::eos_agree` meets its contract.
 use mathlib.Core.Path.{_∙_}
 use borrow.Author.Tests.{le-leb, lt-leb}
 use Rattle.port.specs.FlatSetup.{flatAgreement}
 use borrow.Author.Needs.{needs}
 use Rattle.port.proofs.eos_agree.Statement.{statement}
 use Rattle.port.proofs.eos_agree.Tie as tie
-use Rattle.port.proofs.eos_agree.Reads as reads
-use Rattle.port.proofs.eos_agree.Lts as lts
-use Rattle.port.proofs.flat_agreement_of.Reads as flat-agreement-of-reads
-use Rattle.port.proofs.setup_at.Reads as setup-at-reads
-use Rattle.setup.proofs.agree.Reads as agree-reads
-use Rattle.setup.proofs.no_agreement.Reads as no-agreement-reads
 
--- src/lib.rt:323:34
 no-agreement-requires : tie.Need-no-agreement-requires
 no-agreement-requires c κs = search needs
 
--- src/lib.rt:323:9
 flat-agreement-of-requires : tie.Need-flat-agreement-of-requires
 flat-agreement-of-requires c κs = search needs
 
--- src/lib.rt:323:9
 returns : tie.Need-returns
 unfolding flatAgreement
 returns c = c .flat-agreement-of .ensures ∙ simp (c .before .no-agreement .ensures, lt-leb _ _ (c .before .before .if1 .taken))
 
--- src/lib.rt:326:34
 no-agreement-requires-2 : tie.Need-no-agreement-requires-2
 no-agreement-requires-2 c κs = search needs
 
--- src/lib.rt:326:9
 flat-agreement-of-requires-2 : tie.Need-flat-agreement-of-requires-2
 flat-agreement-of-requires-2 c κs = search needs
 
--- src/lib.rt:326:9
 returns-2 : tie.Need-returns-2
 unfolding flatAgreement
 returns-2 c = c .flat-agreement-of2 .ensures ∙ simp (c .before .no-agreement2 .ensures, le-leb _ _ (c .before .before .before .before .if1 .left), lt-leb _ _ (c .before .before .if2 .taken))
 
--- src/lib.rt:328:36
 setup-at-requires : tie.Need-setup-at-requires
 setup-at-requires c κs = search needs
 
--- src/lib.rt:328:54
 setup-at-requires-2 : tie.Need-setup-at-requires-2
 setup-at-requires-2 c κs = search needs
 
--- src/lib.rt:328:23
 agree-requires : tie.Need-agree-requires
 agree-requires c κs = search needs
 
--- src/lib.rt:328:5
 flat-agreement-of-requires-3 : tie.Need-flat-agreement-of-requires-3
 flat-agreement-of-requires-3 c κs = search needs
 
--- src/lib.rt:318:1
 returns-3 : tie.Need-returns-3
 unfolding flatAgreement
 returns-3 c = c .flat-agreement-of3 .ensures ∙ simp (c .before .agree .ensures, c .before .before .setup-at2 .ensures, c .before .before .before .setup-at .ensures, le-leb _ _ (c .before .before .before .before .before .before .if1 .left), le-leb _ _ (c .before .before .before .before .if2 .left))

@@ -1,31 +1,23 @@
+-- `port::eos_write_setup` meets its contract.
 use borrow.Author.Tests.{le-leb, lt-leb}
 use Rattle.port.specs.FlatSetup.{flatSetupWritten, flatSetupInto}
 use borrow.Author.Needs.{needs}
 use Rattle.port.proofs.eos_write_setup.Statement.{statement}
 use Rattle.port.proofs.eos_write_setup.Tie as tie
-use Rattle.port.proofs.eos_write_setup.Reads as reads
-use Rattle.port.proofs.eos_write_setup.Lts as lts
-use Rattle.port.proofs.setup_at.Reads as setup-at-reads
-use Rattle.setup.proofs.write_setup.Reads as write-setup-reads
 
--- src/lib.rt:296:9
 returns : tie.Need-returns
 unfolding flatSetupWritten flatSetupInto
 returns c = (rw (lt-leb _ _ (c .if1 .taken)), rw (lt-leb _ _ (c .if1 .taken)))
 
--- src/lib.rt:301:24
 setup-at-requires : tie.Need-setup-at-requires
 setup-at-requires c κs = search needs
 
--- src/lib.rt:301:5
 write-setup-requires : tie.Need-write-setup-requires
 write-setup-requires c κs = search needs
 
--- src/lib.rt:290:1
 same-length : tie.Need-same-length
 same-length c = search needs
 
--- src/lib.rt:290:1
 returns-2 : tie.Need-returns-2
 unfolding flatSetupWritten flatSetupInto
 returns-2 c = (rw (le-leb _ _ (c .before .before .before .before .before .if1 .left), ← (c .before .before .before .before .setup-at .ensures)) (c .before .before .write-setup .ensures .0), rw (le-leb _ _ (c .before .before .before .before .before .if1 .left), ← (c .before .before .before .before .setup-at .ensures)) (c .before .before .write-setup .ensures .1))

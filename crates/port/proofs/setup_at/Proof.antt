@@ -1,11 +1,9 @@
+-- `port::setup_at` meets its contract.
 use mathlib.Core.Path.{refl}
 use Rattle.port.specs.FlatSetup.{setupAt}
 use Rattle.port.proofs.setup_at.Statement.{statement}
 use Rattle.port.proofs.setup_at.Tie as tie
-use Rattle.port.proofs.setup_at.Reads as reads
-use Rattle.port.proofs.setup_at.Lts as lts
 
--- src/lib.rt:279:1
 returns : tie.Need-returns
 unfolding setupAt
 returns c = refl

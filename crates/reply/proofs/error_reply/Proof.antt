@@ -1,3 +1,5 @@
+-- `reply::error_reply` meets its contract.
+use mathlib.Core.Path.{refl}
 use Rattle.reply.proofs.Laws.{positive, none-fits}
 use borrow.Author.Tests.{le-leb, lt-leb}
 use Rattle.reply.specs.Reply.{errorReplyAnswer, errorReplyInto, errorReplyNumber, errorReply, replyKindFor}
@@ -5,56 +7,40 @@ use Rattle.wire.specs.Wire.{words, joined}
 use borrow.Author.Needs.{needs}
 use Rattle.reply.proofs.error_reply.Statement.{statement}
 use Rattle.reply.proofs.error_reply.Tie as tie
-use Rattle.reply.proofs.error_reply.Reads as reads
-use Rattle.reply.proofs.error_reply.Lts as lts
-use Rattle.reply.proofs.granted_credit.Reads as granted-credit-reads
-use Rattle.reply.proofs.kind_for.Reads as kind-for-reads
-use Rattle.reply.proofs.put_reply.Reads as put-reply-reads
-use Rattle.wire.proofs.word_at.Reads as word-at-reads
 
--- src/lib.rt:171:9
 returns : tie.Need-returns
 unfolding errorReplyAnswer errorReplyInto errorReplyNumber
-returns c = (rw (c .if1 .taken), rw (c .if1 .taken))
+returns c = rw (c .if1 .taken) (refl, refl)
 
--- src/lib.rt:177:9
 returns-2 : tie.Need-returns-2
 unfolding errorReplyAnswer errorReplyInto errorReplyNumber
-returns-2 c = (simp (le-leb 1 _ (positive _ (c .before .if1 .left)), lt-leb _ 21 (c .if2 .taken)), simp (le-leb 1 _ (positive _ (c .before .if1 .left)), lt-leb _ 21 (c .if2 .taken)))
+returns-2 c = simp (le-leb 1 _ (positive _ (c .before .if1 .left)), lt-leb _ 21 (c .if2 .taken)) (refl, refl)
 
--- src/lib.rt:183:9
 returns-3 : tie.Need-returns-3
 unfolding errorReplyAnswer errorReplyInto errorReplyNumber errorReply replyKindFor words joined
-returns-3 c = (simp (le-leb 1 _ (positive _ (c .before .before .if1 .left)), le-leb _ 21 (c .before .if2 .left), lt-leb 16 _ (c .if3 .taken), none-fits), simp (le-leb 1 _ (positive _ (c .before .before .if1 .left)), le-leb _ 21 (c .before .if2 .left), lt-leb 16 _ (c .if3 .taken), none-fits))
+returns-3 c = simp (le-leb 1 _ (positive _ (c .before .before .if1 .left)), le-leb _ 21 (c .before .if2 .left), lt-leb 16 _ (c .if3 .taken), none-fits) (refl, refl)
 
--- src/lib.rt:188:9
 kind-for-requires : tie.Need-kind-for-requires
 kind-for-requires c κs = search needs
 
--- src/lib.rt:189:9
 word-at-requires : tie.Need-word-at-requires
 word-at-requires c κs = search needs
 
--- src/lib.rt:190:9
 word-at-requires-2 : tie.Need-word-at-requires-2
 word-at-requires-2 c κs = search needs
 
--- src/lib.rt:191:31
 granted-credit-requires : tie.Need-granted-credit-requires
 granted-credit-requires c κs = search needs
 
--- src/lib.rt:191:5
 put-reply-requires : tie.Need-put-reply-requires
 put-reply-requires c κs = search needs
 
--- src/lib.rt:166:1
 same-length : tie.Need-same-length
 same-length c = search needs
 
--- src/lib.rt:166:1
 returns-4 : tie.Need-returns-4
 unfolding errorReplyAnswer errorReplyInto errorReplyNumber errorReply
-returns-4 c = (simp (le-leb 1 _ (positive _ (c .before .before .before .before .before .before .before .before .before .before .if1 .left)), le-leb _ 21 (c .before .before .before .before .before .before .before .before .before .if2 .left), ← (c .before .before .before .before .before .before .before .kind-for .ensures), ← (c .before .before .before .before .before .before .word-at .ensures), ← (c .before .before .before .before .before .word-at2 .ensures), ← (c .before .before .before .granted-credit .ensures)) (c .before .before .put-reply .ensures .0), simp (le-leb 1 _ (positive _ (c .before .before .before .before .before .before .before .before .before .before .if1 .left)), le-leb _ 21 (c .before .before .before .before .before .before .before .before .before .if2 .left), ← (c .before .before .before .before .before .before .before .kind-for .ensures), ← (c .before .before .before .before .before .before .word-at .ensures), ← (c .before .before .before .before .before .word-at2 .ensures), ← (c .before .before .before .granted-credit .ensures)) (c .before .before .put-reply .ensures .1))
+returns-4 c = simp (le-leb 1 _ (positive _ (c .before .before .before .before .before .before .before .before .before .before .if1 .left)), le-leb _ 21 (c .before .before .before .before .before .before .before .before .before .if2 .left), ← (c .before .before .before .before .before .before .before .kind-for .ensures), ← (c .before .before .before .before .before .before .word-at .ensures), ← (c .before .before .before .before .before .word-at2 .ensures), ← (c .before .before .before .granted-credit .ensures)) (c .before .before .put-reply .ensures)
 
 pub error-reply-spec : {M : Type 1} → statement M
 error-reply-spec =

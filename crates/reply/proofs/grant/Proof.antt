@@ -1,23 +1,18 @@
+-- `reply::grant` meets its contract.
 use Rattle.reply.proofs.Laws.{positive}
 use borrow.Author.Tests.{le-leb}
 use Rattle.reply.specs.Reply.{grantAnswer}
 use borrow.Author.Needs.{needs}
 use Rattle.reply.proofs.grant.Statement.{statement}
 use Rattle.reply.proofs.grant.Tie as tie
-use Rattle.reply.proofs.grant.Reads as reads
-use Rattle.reply.proofs.grant.Lts as lts
-use Rattle.reply.proofs.granted_credit.Reads as granted-credit-reads
 
--- src/lib.rt:72:9
 returns : tie.Need-returns
 unfolding grantAnswer
 returns c = rw (c .if1 .taken)
 
--- src/lib.rt:78:17
 granted-credit-requires : tie.Need-granted-credit-requires
 granted-credit-requires c κs = search needs
 
--- src/lib.rt:68:1
 returns-2 : tie.Need-returns-2
 unfolding grantAnswer
 returns-2 c = simp (le-leb 1 _ (positive _ (c .before .if1 .left)), c .granted-credit .ensures)

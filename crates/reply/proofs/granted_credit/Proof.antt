@@ -1,22 +1,18 @@
+-- `reply::granted_credit` meets its contract.
 use native.Mathlib.Nat.{zero-min}
 use Rattle.reply.proofs.Laws.{at-most, as-asked}
 use mathlib.Core.Path.{sym}
 use Rattle.reply.specs.Reply.{granted}
 use Rattle.reply.proofs.granted_credit.Statement.{statement}
 use Rattle.reply.proofs.granted_credit.Tie as tie
-use Rattle.reply.proofs.granted_credit.Reads as reads
-use Rattle.reply.proofs.granted_credit.Lts as lts
 
--- src/lib.rt:59:9
 returns : tie.Need-returns
 unfolding granted
 returns c = rw (c .if1 .taken, zero-min)
 
--- src/lib.rt:62:9
 returns-2 : tie.Need-returns-2
 returns-2 c = sym (at-most (c .if2 .taken) (c .before .before .pre))
 
--- src/lib.rt:53:1
 returns-3 : tie.Need-returns-3
 returns-3 c = sym (as-asked (c .before .if1 .left) (c .if2 .left))
 

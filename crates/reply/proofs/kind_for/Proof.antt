@@ -1,28 +1,21 @@
+-- `reply::kind_for` meets its contract.
 use mathlib.Core.Path.{_∙_}
 use borrow.Author.Tests.{le-leb, eq-eqb, ne-eqb}
 use Rattle.reply.specs.Reply.{replyKindFor}
 use borrow.Author.Needs.{needs}
 use Rattle.reply.proofs.kind_for.Statement.{statement}
 use Rattle.reply.proofs.kind_for.Tie as tie
-use Rattle.reply.proofs.kind_for.Reads as reads
-use Rattle.reply.proofs.kind_for.Lts as lts
-use Rattle.reply.proofs.kind_of.Reads as kind-of-reads
-use Rattle.wire.proofs.word_at.Reads as word-at-reads
 
--- src/lib.rt:98:8
 word-at-requires : tie.Need-word-at-requires
 word-at-requires c κs = search needs
 
--- src/lib.rt:99:9
 returns : tie.Need-returns
 unfolding replyKindFor
 returns c = simp (le-leb 16 _ (c .before .before .before .pre .0), ← (c .before .word-at .ensures), eq-eqb _ _ (c .if1 .taken))
 
--- src/lib.rt:101:5
 kind-of-requires : tie.Need-kind-of-requires
 kind-of-requires c κs = search needs
 
--- src/lib.rt:93:1
 returns-2 : tie.Need-returns-2
 unfolding replyKindFor
 returns-2 c = c .kind-of .ensures ∙ simp (le-leb 16 _ (c .before .before .before .before .pre .0), ← (c .before .before .word-at .ensures), ne-eqb _ _ (c .before .if1 .left))

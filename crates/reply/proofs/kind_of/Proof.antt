@@ -1,17 +1,14 @@
+-- `reply::kind_of` meets its contract.
 use Rattle.reply.proofs.Laws.{by-table}
 use mathlib.Core.Path.{refl}
 use Rattle.reply.specs.Reply.{replyKindOf}
 use borrow.Author.Needs.{needs}
 use Rattle.reply.proofs.kind_of.Statement.{statement}
 use Rattle.reply.proofs.kind_of.Tie as tie
-use Rattle.reply.proofs.kind_of.Reads as reads
-use Rattle.reply.proofs.kind_of.Lts as lts
 
--- src/lib.rt:88:16
 array-copy-out-kind : tie.Need-array-copy-out-kind
 array-copy-out-kind c = search needs
 
--- src/lib.rt:84:1
 returns : tie.Need-returns
 unfolding replyKindOf
 returns c = by-table _ refl _ (c .before .pre)

@@ -1,31 +1,23 @@
+-- `reply::put_version` meets its contract.
 use Rattle.wire.proofs.Laws.{then}
 use mathlib.Core.Path.{refl}
 use Rattle.wire.specs.Wire.{words, joined, wordBytes}
 use borrow.Author.Needs.{needs}
 use Rattle.reply.proofs.put_version.Statement.{statement}
 use Rattle.reply.proofs.put_version.Tie as tie
-use Rattle.reply.proofs.put_version.Reads as reads
-use Rattle.reply.proofs.put_version.Lts as lts
-use Rattle.reply.proofs.put_common.Reads as put-common-reads
-use Rattle.wire.proofs.put_word.Reads as put-word-reads
 
--- src/lib.rt:121:5
 put-common-requires : tie.Need-put-common-requires
 put-common-requires c κs = search needs
 
--- src/lib.rt:122:5
 put-word-requires : tie.Need-put-word-requires
 put-word-requires c κs = search needs
 
--- src/lib.rt:123:5
 put-word-requires-2 : tie.Need-put-word-requires-2
 put-word-requires-2 c κs = search needs
 
--- src/lib.rt:117:1
 same-length : tie.Need-same-length
 same-length c = search needs
 
--- src/lib.rt:117:1
 returns : tie.Need-returns
 unfolding words joined wordBytes
 returns c = then _ _ _ _ _ _ _ (then _ _ _ _ _ _ _ (c .before .before .before .before .before .before .before .before .before .before .put-common .ensures) (c .before .before .before .before .before .before .put-word .ensures) refl) (c .before .before .put-word2 .ensures) refl

@@ -1,55 +1,40 @@
+-- `setup::agree` meets its contract.
 use mathlib.Core.Path.{_∙_}
 use borrow.Author.Tests.{not-true, not-false}
 use Rattle.setup.specs.Setup.{agreement}
 use borrow.Author.Needs.{needs}
 use Rattle.setup.proofs.agree.Statement.{statement}
 use Rattle.setup.proofs.agree.Tie as tie
-use Rattle.setup.proofs.agree.Reads as reads
-use Rattle.setup.proofs.agree.Lts as lts
-use Rattle.setup.proofs.Size.smaller.Reads as smaller-reads
-use Rattle.setup.proofs.both.Reads as both-reads
-use Rattle.setup.proofs.no_agreement.Reads as no-agreement-reads
-use Rattle.setup.proofs.setup_in_rule.Reads as setup-in-rule-reads
 
--- src/lib.rt:221:9
 setup-in-rule-requires : tie.Need-setup-in-rule-requires
 setup-in-rule-requires c κs = search needs
 
--- src/lib.rt:222:9
 no-agreement-requires : tie.Need-no-agreement-requires
 no-agreement-requires c κs = search needs
 
--- src/lib.rt:222:9
 returns : tie.Need-returns
 unfolding agreement
 returns c = c .no-agreement .ensures ∙ simp (← (c .before .before .setup-in-rule .ensures), not-true (c .before .before .setup-in-rule .result) (c .before .if1 .taken))
 
--- src/lib.rt:224:9
 setup-in-rule-requires-2 : tie.Need-setup-in-rule-requires-2
 setup-in-rule-requires-2 c κs = search needs
 
--- src/lib.rt:225:9
 no-agreement-requires-2 : tie.Need-no-agreement-requires-2
 no-agreement-requires-2 c κs = search needs
 
--- src/lib.rt:225:9
 returns-2 : tie.Need-returns-2
 unfolding agreement
 returns-2 c = c .no-agreement2 .ensures ∙ simp (← (c .before .before .before .before .setup-in-rule .ensures), not-false (c .before .before .before .before .setup-in-rule .result) (c .before .before .before .if1 .left), ← (c .before .before .setup-in-rule2 .ensures), not-true (c .before .before .setup-in-rule2 .result) (c .before .if2 .taken))
 
--- src/lib.rt:232:27
 smaller-requires : tie.Need-smaller-requires
 smaller-requires c κs = search needs
 
--- src/lib.rt:233:27
 smaller-requires-2 : tie.Need-smaller-requires-2
 smaller-requires-2 c κs = search needs
 
--- src/lib.rt:234:30
 both-requires : tie.Need-both-requires
 both-requires c κs = search needs
 
--- src/lib.rt:218:1
 returns-3 : tie.Need-returns-3
 unfolding agreement
 returns-3 c = simp (← (c .before .before .before .before .before .before .before .before .before .before .setup-in-rule .ensures), not-false (c .before .before .before .before .before .before .before .before .before .before .setup-in-rule .result) (c .before .before .before .before .before .before .before .before .before .if1 .left), ← (c .before .before .before .before .before .before .before .before .setup-in-rule2 .ensures), not-false (c .before .before .before .before .before .before .before .before .setup-in-rule2 .result) (c .before .before .before .before .before .before .before .if2 .left), c .before .before .smaller .ensures, c .before .smaller2 .ensures, c .both .ensures)

@@ -1,31 +1,24 @@
+-- `setup::is_setup` meets its contract.
 use borrow.Author.Tests.{le-leb, lt-leb, eq-eqb, ne-eqb}
 use Rattle.setup.specs.Setup.{isSetup}
 use borrow.Author.Needs.{needs}
 use Rattle.setup.proofs.is_setup.Statement.{statement}
 use Rattle.setup.proofs.is_setup.Tie as tie
-use Rattle.setup.proofs.is_setup.Reads as reads
-use Rattle.setup.proofs.is_setup.Lts as lts
-use Rattle.wire.proofs.word_at.Reads as word-at-reads
 
--- src/lib.rt:102:9
 returns : tie.Need-returns
 unfolding isSetup
 returns c = simp (lt-leb _ _ (c .if1 .taken))
 
--- src/lib.rt:104:8
 word-at-requires : tie.Need-word-at-requires
 word-at-requires c κs = search needs
 
--- src/lib.rt:105:9
 returns-2 : tie.Need-returns-2
 unfolding isSetup
 returns-2 c = simp (le-leb _ _ (c .before .before .if1 .left), ← (c .before .word-at .ensures), ne-eqb _ _ (c .if2 .taken))
 
--- src/lib.rt:107:5
 shared-slice-read-result : tie.Need-shared-slice-read-result
 shared-slice-read-result c = search needs
 
--- src/lib.rt:98:1
 returns-3 : tie.Need-returns-3
 unfolding isSetup
 returns-3 c = simp (le-leb _ _ (c .before .before .before .if1 .left), ← (c .before .before .word-at .ensures), eq-eqb _ _ (c .before .if2 .left))

@@ -1,3 +1,4 @@
+-- `setup::read_setup` meets its contract.
 use Rattle.setup.proofs.Laws.{setup-there}
 use mathlib.Core.Path.{sym, _∙_}
 use native.Mathlib.Omega.{arith}
@@ -6,41 +7,29 @@ use Rattle.setup.specs.Setup.{readSetup}
 use borrow.Author.Needs.{needs}
 use Rattle.setup.proofs.read_setup.Statement.{statement}
 use Rattle.setup.proofs.read_setup.Tie as tie
-use Rattle.setup.proofs.read_setup.Reads as reads
-use Rattle.setup.proofs.read_setup.Lts as lts
-use Rattle.setup.proofs.Size.from_byte.Reads as from-byte-reads
-use Rattle.setup.proofs.is_setup.Reads as is-setup-reads
 
--- src/lib.rt:114:9
 is-setup-requires : tie.Need-is-setup-requires
 is-setup-requires c κs = search needs
 
--- src/lib.rt:115:9
 returns : tie.Need-returns
 unfolding readSetup
 returns c = simp (← (c .before .is-setup .ensures), not-true (c .before .is-setup .result) (c .if1 .taken))
 
--- src/lib.rt:127:34
 shared-slice-read-t8 : tie.Need-shared-slice-read-t8
 shared-slice-read-t8 c = omega (arith, setup-there _ (sym (c .before .before .is-setup .ensures) ∙ not-false (c .before .before .is-setup .result) (c .before .if1 .left)) .long)
 
--- src/lib.rt:128:35
 shared-slice-read-from-byte : tie.Need-shared-slice-read-from-byte
 shared-slice-read-from-byte c = omega (arith, setup-there _ (sym (c .before .before .before .is-setup .ensures) ∙ not-false (c .before .before .before .is-setup .result) (c .before .before .if1 .left)) .long)
 
--- src/lib.rt:128:19
 from-byte-requires : tie.Need-from-byte-requires
 from-byte-requires c κs = search needs
 
--- src/lib.rt:129:38
 shared-slice-read-from-byte-2 : tie.Need-shared-slice-read-from-byte-2
 shared-slice-read-from-byte-2 c = omega (arith, setup-there _ (sym (c .before .before .before .before .before .is-setup .ensures) ∙ not-false (c .before .before .before .before .before .is-setup .result) (c .before .before .before .before .if1 .left)) .long)
 
--- src/lib.rt:129:22
 from-byte-requires-2 : tie.Need-from-byte-requires-2
 from-byte-requires-2 c κs = search needs
 
--- src/lib.rt:111:1
 returns-2 : tie.Need-returns-2
 unfolding readSetup
 returns-2 c = simp (← (c .before .before .before .before .before .before .is-setup .ensures), not-false (c .before .before .before .before .before .before .is-setup .result) (c .before .before .before .before .before .if1 .left), c .before .before .from-byte .ensures, c .from-byte2 .ensures)

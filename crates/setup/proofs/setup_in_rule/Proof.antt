@@ -1,26 +1,20 @@
+-- `setup::setup_in_rule` meets its contract.
 use borrow.Author.Tests.{not-true, not-false}
 use Rattle.setup.specs.Setup.{setupInRule}
 use borrow.Author.Needs.{needs}
 use Rattle.setup.proofs.setup_in_rule.Statement.{statement}
 use Rattle.setup.proofs.setup_in_rule.Tie as tie
-use Rattle.setup.proofs.setup_in_rule.Reads as reads
-use Rattle.setup.proofs.setup_in_rule.Lts as lts
-use Rattle.setup.proofs.Size.in_rule.Reads as in-rule-reads
 
--- src/lib.rt:142:9
 in-rule-requires : tie.Need-in-rule-requires
 in-rule-requires c κs = search needs
 
--- src/lib.rt:143:9
 returns : tie.Need-returns
 unfolding setupInRule
 returns c = simp (← (c .before .in-rule .ensures), not-true (c .before .in-rule .result) (c .if1 .taken))
 
--- src/lib.rt:145:5
 in-rule-requires-2 : tie.Need-in-rule-requires-2
 in-rule-requires-2 c κs = search needs
 
--- src/lib.rt:137:1
 returns-2 : tie.Need-returns-2
 unfolding setupInRule
 returns-2 c = simp (← (c .before .before .in-rule .ensures), not-false (c .before .before .in-rule .result) (c .before .if1 .left)) (c .in-rule2 .ensures)

@@ -1,15 +1,12 @@
+-- `setup::Size::smaller` meets its contract.
 use native.Mathlib.Nat.{min-eq-left, min-eq-right, le-of-lt}
 use mathlib.Core.Path.{sym}
 use Rattle.setup.proofs.Size.smaller.Statement.{statement}
 use Rattle.setup.proofs.Size.smaller.Tie as tie
-use Rattle.setup.proofs.Size.smaller.Reads as reads
-use Rattle.setup.proofs.Size.smaller.Lts as lts
 
--- src/lib.rt:70:13
 returns : tie.Need-returns
 returns c = λ i. record { 0 = sym (min-eq-left (c .if1 .taken)) i }
 
--- src/lib.rt:66:5
 returns-2 : tie.Need-returns-2
 returns-2 c = λ i. record { 0 = sym (min-eq-right (le-of-lt (c .if1 .left))) i }
 
