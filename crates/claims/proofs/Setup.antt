@@ -12,7 +12,7 @@ use lib.Dec.{leb, eqb}
 use Rattle.wire.specs.Wire.{wordAt, wordBytes}
 use Rattle.wire.specs.Answers.{check}
 use Rattle.wire.proofs.Laws.{check-passed}
-use Rattle.setup.specs.Setup.{sizeOf, isSetup, setupIn, noSetup, readSetup, inRule, setupInRule, sizeByte, flagsOf, setupBytes, writeSetupNumber, writeSetupAnswer, writtenSetup}
+use Rattle.setup.specs.Setup.{sizeOf, isSetup, setupIn, noSetup, readSetup, inRule, setupInRule, sizeByte, flagsOf, setupBytes, writeSetupNumber, writeSetupAnswer, writtenSetup, agreement}
 use Rattle.setup.specs.declared.Size.{Size}
 use Rattle.setup.specs.declared.Setup.{Setup}
 use Rattle.setup.proofs.Laws.{There, in-rule, both-in-rule, setup-there}
@@ -117,3 +117,8 @@ setup-written-read x out e =
     let ruled = check-passed (setupInRule x) 20 _ (omega arith) (number-is x (length out) e) .0 in
     let back = setup-back x [] ruled in
     simp (e, take-append-seam) (setup-back x _ ruled, simp append-nil at back)
+
+-- So two sides that were read always agree.
+pub read-agreed : (a b : List ℕ) → AllBytes a → AllBytes b → agreement (readSetup a .setup) (readSetup b .setup) .number ≡ 0
+unfolding agreement
+read-agreed a b f g = simp (read-in-rule a f, read-in-rule b g)

@@ -1,1 +1,1 @@
-// No code: the theorems about reading and writing headers, and the worked examples, over the definitions of the crates below.
+// No code: the theorems about headers, setup data and error replies, and the worked examples, over the definitions of the crates below.

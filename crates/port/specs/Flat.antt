@@ -78,8 +78,8 @@ kindOf kind low high =
     No)))
 
 -- The header that a flat struct holds, with its kind and presence.
-unfoldable pub headerAt : FlatHeader → Kind → Bool → Header
-headerAt f kind present = record {
+unfoldable pub headerOfFlat : FlatHeader → Kind → Bool → Header
+headerOfFlat f kind present = record {
   reads = record { segments = f .reads; count = f .«read_count» };
   writes = record { segments = f .writes; counts = f .«write_counts»; chunks = f .«write_chunks» };
   reply = record { segments = f .reply; count = f .«reply_count»; present = present };
@@ -93,12 +93,12 @@ abbrev pub portAnswer : FlatHeader → Known → Bool → ℕ → WriteAnswer
 portAnswer f No fits room = record { number = 20; length = 0 }
 portAnswer f (Is kind) false room = record { number = 20; length = 0 }
 portAnswer f (Is kind) true room =
-    writeAnswer (headerAt f kind (eqb (f .«reply_present») 1)) room
+    writeAnswer (headerOfFlat f kind (eqb (f .«reply_present») 1)) room
 
 abbrev pub portInto : FlatHeader → Known → Bool → List ℕ → List ℕ
 portInto f No fits out = out
 portInto f (Is kind) false out = out
-portInto f (Is kind) true out = writtenInto (headerAt f kind (eqb (f .«reply_present») 1)) out
+portInto f (Is kind) true out = writtenInto (headerOfFlat f kind (eqb (f .«reply_present») 1)) out
 
 unfoldable pub flatWritten : FlatHeader → ℕ → WriteAnswer
 flatWritten f room = portAnswer f (kindOf (f .kind) (f .low) (f .high)) (leb (f .«reply_present») 1) room

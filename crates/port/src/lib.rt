@@ -17,8 +17,8 @@ ghost use lib.ListN.{length};
 ghost use Rattle.header.specs.Frame.{readFrame, readAnswer, payloadOf};
 ghost use Rattle.reply.specs.Reply.{grantAnswer, errorReplyAnswer, errorReplyInto};
 ghost use Rattle.setup.specs.Setup.{readSetup};
-ghost use Rattle.port.specs.FlatSetup.{flatSetupOf, flatSetupAnswer, setupAt, flatSetupWritten, flatSetupInto, flatAgreementOf, flatAgreement};
-ghost use Rattle.port.specs.Flat.{kindNumber, lowOf, highOf, flagNumber, flatOf, flatAnswer, partOf, kindOf, headerAt, flatWritten, flatInto};
+ghost use Rattle.port.specs.FlatSetup.{flatSetupOf, flatSetupAnswer, setupOfFlat, flatSetupWritten, flatSetupInto, flatAgreementOf, flatAgreement};
+ghost use Rattle.port.specs.Flat.{kindNumber, lowOf, highOf, flagNumber, flatOf, flatAnswer, partOf, kindOf, headerOfFlat, flatWritten, flatInto};
 
 #[repr(C)]
 pub struct FlatHeader {
@@ -176,8 +176,8 @@ fn kind_of(kind: u32, low: u32, high: u32) -> Known
     }
 }
 
-fn header_at(f: FlatHeader, kind: Kind, present: bool) -> Header
-    ensures { λ r. ⌜ r ≡ headerAt f kind present ⌝ }
+fn header_of_flat(f: FlatHeader, kind: Kind, present: bool) -> Header
+    ensures { λ r. ⌜ r ≡ headerOfFlat f kind present ⌝ }
 {
     let reads = f.reads;
     let writes = f.writes;
@@ -212,18 +212,12 @@ pub extern "C" fn eos_write_header(f: FlatHeader, out: &mut [u8]) -> WriteAnswer
 {
     let known = kind_of(f.kind, f.low, f.high);
     let Known::Is(kind) = known else {
-        return WriteAnswer {
-            number: wire::BAD_ARGUMENT,
-            length: 0,
-        };
+        return wire::nothing_written(wire::BAD_ARGUMENT);
     };
     if 1 < f.reply_present {
-        return WriteAnswer {
-            number: wire::BAD_ARGUMENT,
-            length: 0,
-        };
+        return wire::nothing_written(wire::BAD_ARGUMENT);
     }
-    let h = header_at(f, kind, f.reply_present == 1);
+    let h = header_of_flat(f, kind, f.reply_present == 1);
     writer::write_header(h, out)
 }
 
@@ -276,8 +270,8 @@ pub extern "C" fn eos_read_setup(bytes: &[u8]) -> FlatSetupAnswer
     }
 }
 
-fn setup_at(f: FlatSetup) -> Setup
-    ensures { λ r. ⌜ r ≡ setupAt f ⌝ }
+fn setup_of_flat(f: FlatSetup) -> Setup
+    ensures { λ r. ⌜ r ≡ setupOfFlat f ⌝ }
 {
     Setup {
         remote_invalidation: f.remote_invalidation == 1,
@@ -293,12 +287,9 @@ pub extern "C" fn eos_write_setup(f: FlatSetup, out: &mut [u8]) -> WriteAnswer
     ensures buffer { λ _. ⌜ now (out .exit) ≡ flatSetupInto f (now (out .entry)) ⌝ }
 {
     if 1 < f.remote_invalidation {
-        return WriteAnswer {
-            number: wire::BAD_ARGUMENT,
-            length: 0,
-        };
+        return wire::nothing_written(wire::BAD_ARGUMENT);
     }
-    setup::write_setup(setup_at(f), out)
+    setup::write_setup(setup_of_flat(f), out)
 }
 
 fn flat_agreement_of(a: Agreement) -> FlatAgreement
@@ -325,7 +316,7 @@ pub extern "C" fn eos_agree(client: FlatSetup, server: FlatSetup) -> FlatAgreeme
     if 1 < server.remote_invalidation {
         return flat_agreement_of(setup::no_agreement());
     }
-    flat_agreement_of(setup::agree(setup_at(client), setup_at(server)))
+    flat_agreement_of(setup::agree(setup_of_flat(client), setup_of_flat(server)))
 }
 
 // The credits to grant to one who asks.
@@ -340,12 +331,12 @@ pub extern "C" fn eos_grant(asked: u32, limit: u32) -> GrantAnswer
 #[no_mangle]
 pub extern "C" fn eos_error_reply(
     frame: &[u8],
-    number: u32,
+    answer: u32,
     limit: u32,
     out: &mut [u8],
 ) -> WriteAnswer
-    ensures answer { λ r. ⌜ r ≡ errorReplyAnswer (now (frame .entry)) number limit (length (now (out .entry))) ⌝ }
-    ensures buffer { λ _. ⌜ now (out .exit) ≡ errorReplyInto (now (frame .entry)) number limit (now (out .entry)) ⌝ }
+    ensures answer { λ r. ⌜ r ≡ errorReplyAnswer (now (frame .entry)) answer limit (length (now (out .entry))) ⌝ }
+    ensures buffer { λ _. ⌜ now (out .exit) ≡ errorReplyInto (now (frame .entry)) answer limit (now (out .entry)) ⌝ }
 {
-    reply::error_reply(frame, number, limit, out)
+    reply::error_reply(frame, answer, limit, out)
 }

@@ -5,7 +5,7 @@ use mathlib.Core.List.{List, [], _∷_}
 use lib.ListN.{length}
 use lib.Dec.{leb, eqb}
 use Rattle.wire.specs.Wire.{wordAt, words}
-use Rattle.wire.specs.Answers.{check, writerAnswer, writerBuffer}
+use Rattle.wire.specs.Answers.{check, roomNumber, writerAnswer, writerBuffer}
 use Rattle.wire.specs.declared.WriteAnswer.{WriteAnswer}
 use Rattle.reply.specs.declared.GrantAnswer.{GrantAnswer}
 use Rattle.reply.specs.declared.ReplyKind.{ReplyKind}
@@ -15,7 +15,7 @@ use Rattle.reply.specs.declared.ReplyKind.the-variants.{None, Version, C
 unfoldable pub granted : ℕ → ℕ → ℕ
 granted asked limit = max 1 (min asked limit)
 
--- "bad argument: credit limit 0" (20), which the grant checks alone.
+-- "bad argument: credit limit 0" (20): "It and the values from two setup data check 20 alone."
 unfoldable pub grantAnswer : ℕ → ℕ → GrantAnswer
 grantAnswer asked limit =
     cond (leb 1 limit) (record { credit = granted asked limit; number = 0 }) (record { credit = 0; number = 20 })
@@ -33,8 +33,8 @@ replyKindOf n =
 
 -- "then no reply .. for a frame under 16 bytes or with procedure 4; then a small fixed table by number"
 unfoldable pub replyKindFor : List ℕ → ℕ → ReplyKind
-replyKindFor frame number =
-    cond (leb 16 (length frame)) (cond (eqb (wordAt frame 12) 4) None (replyKindOf number))
+replyKindFor frame answer =
+    cond (leb 16 (length frame)) (cond (eqb (wordAt frame 12) 4) None (replyKindOf answer))
     None
 
 -- "Version reply: xid, 1, grant, 4, 1, 1, 1 (28 bytes). Chunk reply: xid, 1, grant, 4, 2 (20 bytes)."
@@ -45,23 +45,19 @@ replyWords Chunk xid credit = xid ∷ 1 ∷ credit ∷ 4 ∷ 2 ∷ []
 
 -- The bytes of the reply to a frame that got an answer number; none where there is no reply.
 unfoldable pub errorReply : List ℕ → ℕ → ℕ → List ℕ
-errorReply frame number limit = words (replyWords (replyKindFor frame number) (wordAt frame 0) (granted (wordAt frame 8) limit))
+errorReply frame answer limit = words (replyWords (replyKindFor frame answer) (wordAt frame 0) (granted (wordAt frame 8) limit))
 
--- "then 16": whether `room` bytes hold what is to be written.
-abbrev pub roomNumber : List ℕ → ℕ → ℕ
-roomNumber bytes room = check (leb (length bytes) room) 16 0
-
--- "Checks: 20": "credit limit 0, .. an answer number above 21".
+-- "Checks: 20": "credit limit 0, .. an answer number above 21"; "then 16".
 unfoldable pub errorReplyNumber : List ℕ → ℕ → ℕ → ℕ → ℕ
-errorReplyNumber frame number limit room =
-    check (leb 1 limit && leb number 21) 20 (roomNumber (errorReply frame number limit) room)
+errorReplyNumber frame answer limit room =
+    check (leb 1 limit && leb answer 21) 20 (roomNumber (errorReply frame answer limit) room)
 
 -- "no reply (number 0, length 0, buffer unchanged)", or a reply's number and length.
 unfoldable pub errorReplyAnswer : List ℕ → ℕ → ℕ → ℕ → WriteAnswer
-errorReplyAnswer frame number limit room =
-    writerAnswer (errorReplyNumber frame number limit room) (errorReply frame number limit)
+errorReplyAnswer frame answer limit room =
+    writerAnswer (errorReplyNumber frame answer limit room) (errorReply frame answer limit)
 
--- The buffer behind the call.
+-- The buffer after the call.
 unfoldable pub errorReplyInto : List ℕ → ℕ → ℕ → List ℕ → List ℕ
-errorReplyInto frame number limit out =
-    writerBuffer (errorReplyNumber frame number limit (length out)) (errorReply frame number limit) out
+errorReplyInto frame answer limit out =
+    writerBuffer (errorReplyNumber frame answer limit (length out)) (errorReply frame answer limit) out

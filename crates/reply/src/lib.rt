@@ -1,12 +1,12 @@
-// The credit grant and the error reply. Public: grant, error_reply.
+// The credit grant and the error reply. Public: GrantAnswer, grant, error_reply.
 use wire::WriteAnswer;
 ghost use mathlib.Core.Path.{_≡_};
 ghost use mathlib.Core.List.{_∷_, []};
 ghost use Prim.Native.Nat.{_≤_};
 ghost use lib.ListN.{length};
 ghost use Rattle.wire.specs.Wire.{stored, words};
-ghost use Rattle.wire.specs.Answers.{writerAnswer, writerBuffer};
-ghost use Rattle.reply.specs.Reply.{granted, grantAnswer, replyKindOf, replyKindFor, replyWords, roomNumber, errorReplyAnswer, errorReplyInto};
+ghost use Rattle.wire.specs.Answers.{roomNumber, writerAnswer, writerBuffer};
+ghost use Rattle.reply.specs.Reply.{granted, grantAnswer, replyKindOf, replyKindFor, replyWords, errorReplyAnswer, errorReplyInto};
 
 // What is answered to a frame.
 pub enum ReplyKind {
@@ -82,24 +82,24 @@ pub fn grant(asked: u32, limit: u32) -> GrantAnswer
 }
 
 // The reply that the table has for an answer number.
-fn kind_of(number: u32) -> ReplyKind
-    requires { ⌜ number ≤ 21 ⌝ }
-    ensures { λ r. ⌜ r ≡ replyKindOf number ⌝ }
+fn kind_of(answer: u32) -> ReplyKind
+    requires { ⌜ answer ≤ 21 ⌝ }
+    ensures { λ r. ⌜ r ≡ replyKindOf answer ⌝ }
 {
-    let kind = REPLY_KINDS[number as usize];
+    let kind = REPLY_KINDS[answer as usize];
     kind
 }
 
 // The reply to a frame that got an answer number.
-fn kind_for(frame: &[u8], number: u32) -> ReplyKind
-    requires { ⌜ (16 ≤ length (now frame)) × (number ≤ 21) ⌝ }
-    ensures { λ r. ⌜ r ≡ replyKindFor (now (frame .entry)) number ⌝ }
+fn kind_for(frame: &[u8], answer: u32) -> ReplyKind
+    requires { ⌜ (16 ≤ length (now frame)) × (answer ≤ 21) ⌝ }
+    ensures { λ r. ⌜ r ≡ replyKindFor (now (frame .entry)) answer ⌝ }
 {
     // Two sides that answer each other's errors would never stop.
     if wire::word_at(frame, header::PROCEDURE_AT) == header::PROCEDURE_ERROR {
         return ReplyKind::None;
     }
-    kind_of(number)
+    kind_of(answer)
 }
 
 // Writes the words that both replies have.
@@ -130,16 +130,10 @@ fn put_reply(out: &mut [u8], kind: ReplyKind, xid: u32, credit: u32) -> WriteAns
     ensures buffer { λ _. ⌜ now (out .exit) ≡ writerBuffer (roomNumber (words (replyWords kind xid credit)) (length (now (out .entry)))) (words (replyWords kind xid credit)) (now (out .entry)) ⌝ }
 {
     match kind {
-        ReplyKind::None => WriteAnswer {
-            number: 0,
-            length: 0,
-        },
+        ReplyKind::None => wire::nothing_written(0),
         ReplyKind::Version => {
             if out.len() < header::VERSION_ERROR_BYTES {
-                return WriteAnswer {
-                    number: wire::BUFFER_SHORT,
-                    length: 0,
-                };
+                return wire::nothing_written(wire::BUFFER_SHORT);
             }
             put_version(out, xid, credit);
             WriteAnswer {
@@ -149,10 +143,7 @@ fn put_reply(out: &mut [u8], kind: ReplyKind, xid: u32, credit: u32) -> WriteAns
         }
         ReplyKind::Chunk => {
             if out.len() < header::CHUNK_ERROR_BYTES {
-                return WriteAnswer {
-                    number: wire::BUFFER_SHORT,
-                    length: 0,
-                };
+                return wire::nothing_written(wire::BUFFER_SHORT);
             }
             put_common(out, xid, credit, header::CODE_CHUNK);
             WriteAnswer {
@@ -164,29 +155,20 @@ fn put_reply(out: &mut [u8], kind: ReplyKind, xid: u32, credit: u32) -> WriteAns
 }
 
 // Writes the reply to a frame that got an answer number, if there is one, and keeps the bytes behind it.
-pub fn error_reply(frame: &[u8], number: u32, limit: u32, out: &mut [u8]) -> WriteAnswer
-    ensures answer { λ r. ⌜ r ≡ errorReplyAnswer (now (frame .entry)) number limit (length (now (out .entry))) ⌝ }
-    ensures buffer { λ _. ⌜ now (out .exit) ≡ errorReplyInto (now (frame .entry)) number limit (now (out .entry)) ⌝ }
+pub fn error_reply(frame: &[u8], answer: u32, limit: u32, out: &mut [u8]) -> WriteAnswer
+    ensures answer { λ r. ⌜ r ≡ errorReplyAnswer (now (frame .entry)) answer limit (length (now (out .entry))) ⌝ }
+    ensures buffer { λ _. ⌜ now (out .exit) ≡ errorReplyInto (now (frame .entry)) answer limit (now (out .entry)) ⌝ }
 {
     if limit == 0 {
-        return WriteAnswer {
-            number: wire::BAD_ARGUMENT,
-            length: 0,
-        };
+        return wire::nothing_written(wire::BAD_ARGUMENT);
     }
-    if LAST_NUMBER < number {
-        return WriteAnswer {
-            number: wire::BAD_ARGUMENT,
-            length: 0,
-        };
+    if LAST_NUMBER < answer {
+        return wire::nothing_written(wire::BAD_ARGUMENT);
     }
     if frame.len() < header::FIXED_BYTES {
-        return WriteAnswer {
-            number: 0,
-            length: 0,
-        };
+        return wire::nothing_written(0);
     }
-    let kind = kind_for(frame, number);
+    let kind = kind_for(frame, answer);
     let xid = wire::word_at(frame, header::XID_AT);
     let asked = wire::word_at(frame, header::CREDIT_AT);
     put_reply(out, kind, xid, granted_credit(asked, limit))

@@ -5,12 +5,16 @@ use mathlib.Core.List.{List, [], _∷_, _++_}
 use lib.ListN.{length, getD}
 use lib.Dec.{leb, eqb}
 use Rattle.wire.specs.Wire.{wordAt, wordBytes}
-use Rattle.wire.specs.Answers.{check, writerAnswer, writerBuffer}
+use Rattle.wire.specs.Answers.{check, roomNumber, writerAnswer, writerBuffer}
 use Rattle.wire.specs.declared.WriteAnswer.{WriteAnswer}
 use Rattle.setup.specs.declared.Size.{Size}
 use Rattle.setup.specs.declared.Setup.{Setup}
 use Rattle.setup.specs.declared.SetupAnswer.{SetupAnswer}
 use Rattle.setup.specs.declared.Agreement.{Agreement}
+
+-- "identifier f6ab0e18"
+abbrev pub identifier : ℕ
+identifier = 0xf6ab0e18
 
 -- "A size byte n means (n + 1) × 1,024."
 abbrev pub sizeOf : ℕ → Size
@@ -18,7 +22,7 @@ sizeOf n = record { 0 = (n + 1) * 1024 }
 
 -- "Under 8 bytes, another identifier or another version: there is no setup data": "identifier f6ab0e18; version byte 1".
 unfoldable pub isSetup : List ℕ → Bool
-isSetup s = leb 8 (length s) && (eqb (wordAt s 0) 0xf6ab0e18 && eqb (getD s 4 0) 1)
+isSetup s = leb 8 (length s) && (eqb (wordAt s 0) identifier && eqb (getD s 4 0) 1)
 
 -- "a flags byte whose lowest bit is R, the others .. ignored; send size; receive size"; "Bytes from the ninth on are ignored."
 abbrev pub setupIn : List ℕ → Setup
@@ -34,14 +38,22 @@ readSetup s =
     cond (isSetup s) (record { setup = setupIn s; present = true; number = 0 })
     (record { setup = noSetup; present = false; number = 0 })
 
+-- "from 1,024 to 262,144": "These two ends belong to the size's own type."
+abbrev pub smallestSize : ℕ
+smallestSize = 1024
+
+abbrev pub largestSize : ℕ
+largestSize = 262144
+
 -- "A size handed in is a multiple of 1,024 from 1,024 to 262,144"
 unfoldable pub inRule : Size → Bool
-inRule x = leb 1024 (x .0) && (leb (x .0) 262144 && eqb (x .0 % 1024) 0)
+inRule x = leb smallestSize (x .0) && (leb (x .0) largestSize && eqb (x .0 % 1024) 0)
 
+-- Both sizes that one side hands in.
 unfoldable pub setupInRule : Setup → Bool
 setupInRule x = inRule (x .send) && inRule (x .receive)
 
--- The n that means a size.
+-- The n that means a size in rule.
 abbrev pub sizeByte : Size → ℕ
 sizeByte x = x .0 / 1024 - 1
 
@@ -51,16 +63,17 @@ flagsOf r = cond r 1 0
 
 -- "identifier f6ab0e18; version byte 1; a flags byte ..; send size; receive size"
 unfoldable pub setupBytes : Setup → List ℕ
-setupBytes x = wordBytes 0xf6ab0e18 ++ (1 ∷ flagsOf (x .«remote_invalidation») ∷ sizeByte (x .send) ∷ sizeByte (x .receive) ∷ [])
+setupBytes x = wordBytes identifier ++ (1 ∷ flagsOf (x .«remote_invalidation») ∷ sizeByte (x .send) ∷ sizeByte (x .receive) ∷ [])
 
 -- "else 20; writing then checks 16", into `room` bytes.
 unfoldable pub writeSetupNumber : Setup → ℕ → ℕ
-writeSetupNumber x room = check (setupInRule x) 20 (check (leb (length (setupBytes x)) room) 16 0)
+writeSetupNumber x room = check (setupInRule x) 20 (roomNumber (setupBytes x) room)
 
+-- The number, and with 0 how many bytes were written.
 unfoldable pub writeSetupAnswer : Setup → ℕ → WriteAnswer
 writeSetupAnswer x room = writerAnswer (writeSetupNumber x room) (setupBytes x)
 
--- The buffer behind the call.
+-- The buffer after the call.
 unfoldable pub writtenSetup : Setup → List ℕ → List ℕ
 writtenSetup x out = writerBuffer (writeSetupNumber x (length out)) (setupBytes x) out
 
@@ -68,7 +81,7 @@ writtenSetup x out = writerBuffer (writeSetupNumber x (length out)) (setupBytes 
 abbrev pub smallerSize : Size → Size → Size
 smallerSize a b = record { 0 = min (a .0) (b .0) }
 
--- "for all else zeros"
+-- "for all else zeros, no"
 abbrev pub noAgreement : Agreement
 noAgreement = record { «client_to_server» = record { 0 = 0 }; «server_to_client» = record { 0 = 0 }; «remote_invalidation» = false; number = 20 }
 

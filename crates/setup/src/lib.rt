@@ -1,5 +1,5 @@
-// The connection setup data of RFC 8797, read and written, and what follows from two of them.
-// Public: Size, Setup, read_setup, write_setup, agree.
+// The connection setup data (CM Private Data) of RFC 8797, read and written, and what follows from two of them.
+// Public: Size and its ends, Setup, SetupAnswer, Agreement, read_setup, write_setup, agree. (`no_agreement` serves the exports.)
 use wire::WriteAnswer;
 ghost use mathlib.Core.Path.{_≡_};
 ghost use mathlib.Core.Bool.{true, _&&_};
@@ -9,19 +9,24 @@ ghost use Rattle.wire.specs.Wire.{stored};
 ghost use Rattle.setup.specs.Setup.{sizeOf, inRule, sizeByte, smallerSize, isSetup, readSetup, flagsOf, setupBytes, setupInRule, writeSetupAnswer, writtenSetup, noAgreement, agreement};
 
 // "identifier f6ab0e18; version byte 1; a flags byte ..; send size; receive size"
-pub const IDENTIFIER: u32 = 0xf6ab0e18;
+const IDENTIFIER: u32 = 0xf6ab0e18;
 
-pub const VERSION: u8 = 1;
+const VERSION: u8 = 1;
 
-pub const VERSION_AT: usize = 4;
+// The flags byte of which only R is set.
+const R_FLAG: u8 = 1;
 
-pub const FLAGS_AT: usize = 5;
+const IDENTIFIER_AT: usize = 0;
 
-pub const SEND_AT: usize = 6;
+const VERSION_AT: usize = 4;
 
-pub const RECEIVE_AT: usize = 7;
+const FLAGS_AT: usize = 5;
 
-pub const SETUP_BYTES: usize = 8;
+const SEND_AT: usize = 6;
+
+const RECEIVE_AT: usize = 7;
+
+const SETUP_BYTES: usize = 8;
 
 // The bytes that one message may have inline.
 pub struct Size(pub u32);
@@ -32,17 +37,17 @@ impl Size {
 
     pub const LARGEST: u32 = 262144;
 
-    pub const UNIT: u32 = 1024;
+    const UNIT: u32 = 1024;
 
     // "A size byte n means (n + 1) × 1,024."
-    pub fn from_byte(n: u8) -> Size
+    fn from_byte(n: u8) -> Size
         ensures { λ r. ⌜ r ≡ sizeOf n ⌝ }
     {
         Size((n as u32 + 1) * Size::UNIT)
     }
 
     // Whether a size is one that a size byte can mean.
-    pub fn in_rule(self) -> bool
+    fn in_rule(self) -> bool
         ensures { λ r. ⌜ r ≡ inRule self ⌝ }
     {
         if self.0 < Size::SMALLEST {
@@ -55,7 +60,7 @@ impl Size {
     }
 
     // The byte that means a size.
-    pub fn to_byte(self) -> u8
+    fn to_byte(self) -> u8
         requires { ⌜ inRule self ≡ true ⌝ }
         ensures { λ r. ⌜ r ≡ sizeByte self ⌝ }
     {
@@ -63,7 +68,7 @@ impl Size {
     }
 
     // The smaller of two sizes.
-    pub fn smaller(self, other: Size) -> Size
+    fn smaller(self, other: Size) -> Size
         ensures { λ r. ⌜ r ≡ smallerSize self other ⌝ }
     {
         if self.0 <= other.0 {
@@ -73,7 +78,7 @@ impl Size {
     }
 }
 
-// What one side says of itself.
+// What one side says of itself: R, and how much it sends and receives inline.
 pub struct Setup {
     pub remote_invalidation: bool,
     pub send: Size,
@@ -86,7 +91,7 @@ pub struct SetupAnswer {
     pub number: u32,
 }
 
-// What holds between two sides.
+// What holds between two sides: the inline threshold of each direction, and whether remote invalidation may be used.
 pub struct Agreement {
     pub client_to_server: Size,
     pub server_to_client: Size,
@@ -101,17 +106,17 @@ fn is_setup(s: &[u8]) -> bool
     if s.len() < SETUP_BYTES {
         return false;
     }
-    if wire::word_at(s, 0) != IDENTIFIER {
+    if wire::word_at(s, IDENTIFIER_AT) != IDENTIFIER {
         return false;
     }
     s[VERSION_AT] == VERSION
 }
 
 // Reads setup data.
-pub fn read_setup(s: &[u8]) -> SetupAnswer
-    ensures { λ r. ⌜ r ≡ readSetup (now (s .entry)) ⌝ }
+pub fn read_setup(bytes: &[u8]) -> SetupAnswer
+    ensures { λ r. ⌜ r ≡ readSetup (now (bytes .entry)) ⌝ }
 {
-    if !is_setup(s) {
+    if !is_setup(bytes) {
         return SetupAnswer {
             setup: Setup {
                 remote_invalidation: false,
@@ -124,9 +129,9 @@ pub fn read_setup(s: &[u8]) -> SetupAnswer
     }
     SetupAnswer {
         setup: Setup {
-            remote_invalidation: s[FLAGS_AT] % 2 == 1,
-            send: Size::from_byte(s[SEND_AT]),
-            receive: Size::from_byte(s[RECEIVE_AT]),
+            remote_invalidation: bytes[FLAGS_AT] % 2 == R_FLAG,
+            send: Size::from_byte(bytes[SEND_AT]),
+            receive: Size::from_byte(bytes[RECEIVE_AT]),
         },
         present: true,
         number: 0,
@@ -150,7 +155,7 @@ fn flags_of(invalidation: bool) -> u8
     ensures { λ r. ⌜ r ≡ flagsOf invalidation ⌝ }
 {
     if invalidation {
-        return 1;
+        return R_FLAG;
     }
     0
 }
@@ -165,7 +170,7 @@ fn put_setup(out: &mut [u8], x: Setup)
     let flags = flags_of(x.remote_invalidation);
     let send_byte = send.to_byte();
     let receive_byte = receive.to_byte();
-    wire::put_word(out, 0, IDENTIFIER);
+    wire::put_word(out, IDENTIFIER_AT, IDENTIFIER);
     out[VERSION_AT] = VERSION;
     out[FLAGS_AT] = flags;
     out[SEND_AT] = send_byte;
@@ -173,29 +178,24 @@ fn put_setup(out: &mut [u8], x: Setup)
 }
 
 // Writes setup data at the front of a buffer and keeps the bytes behind it.
-pub fn write_setup(x: Setup, out: &mut [u8]) -> WriteAnswer
-    ensures answer { λ r. ⌜ r ≡ writeSetupAnswer x (length (now (out .entry))) ⌝ }
-    ensures buffer { λ _. ⌜ now (out .exit) ≡ writtenSetup x (now (out .entry)) ⌝ }
+pub fn write_setup(side: Setup, out: &mut [u8]) -> WriteAnswer
+    ensures answer { λ r. ⌜ r ≡ writeSetupAnswer side (length (now (out .entry))) ⌝ }
+    ensures buffer { λ _. ⌜ now (out .exit) ≡ writtenSetup side (now (out .entry)) ⌝ }
 {
-    if !setup_in_rule(x) {
-        return WriteAnswer {
-            number: wire::BAD_ARGUMENT,
-            length: 0,
-        };
+    if !setup_in_rule(side) {
+        return wire::nothing_written(wire::BAD_ARGUMENT);
     }
     if out.len() < SETUP_BYTES {
-        return WriteAnswer {
-            number: wire::BUFFER_SHORT,
-            length: 0,
-        };
+        return wire::nothing_written(wire::BUFFER_SHORT);
     }
-    put_setup(out, x);
+    put_setup(out, side);
     WriteAnswer {
         number: 0,
         length: SETUP_BYTES,
     }
 }
 
+// Whether both sides say so.
 fn both(a: bool, b: bool) -> bool
     ensures { λ r. ⌜ r ≡ (a && b) ⌝ }
 {

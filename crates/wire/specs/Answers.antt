@@ -3,12 +3,16 @@ use Prim.Native.Nat.{ℕ}
 use mathlib.Core.Bool.{Bool, cond}
 use mathlib.Core.List.{List, _++_}
 use lib.ListN.{length, drop}
-use lib.Dec.{eqb}
+use lib.Dec.{leb, eqb}
 use Rattle.wire.specs.declared.WriteAnswer.{WriteAnswer}
 
 -- The number n is given unless the condition holds; then the next check decides.
 abbrev pub check : Bool → ℕ → ℕ → ℕ
 check holds n next = cond holds next n
+
+-- "output buffer too short" (16), unless `room` bytes hold what is to be written.
+abbrev pub roomNumber : List ℕ → ℕ → ℕ
+roomNumber bytes room = check (leb (length bytes) room) 16 0
 
 -- "A refused call returns its number .. and for all else zeros": a writer's number, and with 0 how many bytes it wrote.
 abbrev pub writerAnswer : ℕ → List ℕ → WriteAnswer

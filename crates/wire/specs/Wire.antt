@@ -56,7 +56,7 @@ joined f (x ∷ xs) = f x ++ joined f xs
 unfoldable pub wordBytes : ℕ → List ℕ
 wordBytes x = x / 16777216 % 256 ∷ x / 65536 % 256 ∷ x / 256 % 256 ∷ x % 256 ∷ []
 
--- A frame given by its words.
+-- The bytes of a list of words.
 unfoldable pub words : List ℕ → List ℕ
 words ws = joined wordBytes ws
 

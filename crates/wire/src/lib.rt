@@ -1,5 +1,5 @@
-// Words and segments, of which every part of a transport header is made, read from a frame and written into a buffer.
-// Internal to the library: these calls ask that the bytes are there.
+// Words and segments, of which every part of a transport header is made, read from a frame and written into a buffer; and what
+// every writer answers. The types are public, the calls internal to the library: they ask that the bytes are there.
 ghost use mathlib.Core.Path.{_≡_};
 ghost use Prim.Native.Nat.{_+_, _*_, _≤_};
 ghost use lib.ListN.{length};
@@ -47,6 +47,13 @@ pub struct WriteAnswer {
 pub enum Word {
     Value(u32),
     Refused(u32),
+}
+
+// What a writer answers that writes nothing.
+pub fn nothing_written(number: u32) -> WriteAnswer
+    ensures { λ r. ⌜ r ≡ record { number = number; length = 0 } ⌝ }
+{
+    WriteAnswer { number, length: 0 }
 }
 
 fn join_bytes(a: u8, b: u8, c: u8, d: u8) -> u32

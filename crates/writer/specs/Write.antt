@@ -4,7 +4,7 @@ use mathlib.Core.Bool.{Bool, true, cond, not, _&&_}
 use mathlib.Core.List.{List, [], _∷_}
 use lib.ListN.{length, take}
 use lib.Dec.{leb, eqb}
-use Rattle.wire.specs.Answers.{check, writerAnswer, writerBuffer}
+use Rattle.wire.specs.Answers.{check, roomNumber, writerAnswer, writerBuffer}
 use Rattle.wire.specs.declared.WriteAnswer.{WriteAnswer}
 use Rattle.lists.specs.Lists.{mostReads, mostChunks, mostWrites, mostReplies, positionsNumber}
 use Rattle.header.specs.Content.{contentOf}
@@ -36,13 +36,12 @@ writeNumber h room =
     (check (withinLimits (h .reads .count) (h .writes .chunks) (h .writes .counts) (h .reply .present) (h .reply .count)) 7
     (positionsNumber 0 (contentOf h .reads)
     (check (leb (length (headerBytes (contentOf h))) 1024) 21
-    (check (leb (length (headerBytes (contentOf h))) room) 16
-    0))))
+    (roomNumber (headerBytes (contentOf h)) room))))
 
 -- The number, and with 0 how many bytes were written.
 unfoldable pub writeAnswer : Header → ℕ → WriteAnswer
 writeAnswer h room = writerAnswer (writeNumber h room) (headerBytes (contentOf h))
 
--- The buffer behind the call.
+-- The buffer after the call.
 unfoldable pub writtenInto : Header → List ℕ → List ℕ
 writtenInto h out = writerBuffer (writeNumber h (length out)) (headerBytes (contentOf h)) out

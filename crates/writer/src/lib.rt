@@ -327,7 +327,7 @@ pub fn write_header(h: Header, out: &mut [u8]) -> WriteAnswer
 {
     let number = write_number(h, out.len());
     if number != 0 {
-        return WriteAnswer { number, length: 0 };
+        return wire::nothing_written(number);
     }
     let length = put_header(out, h);
     WriteAnswer { number: 0, length }

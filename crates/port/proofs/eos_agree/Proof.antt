@@ -26,11 +26,11 @@ returns-2 : tie.Need-returns-2
 unfolding flatAgreement
 returns-2 c = c .flat-agreement-of2 .ensures ∙ simp (c .before .no-agreement2 .ensures, le-leb _ _ (c .before .before .before .before .if1 .left), lt-leb _ _ (c .before .before .if2 .taken))
 
-setup-at-requires : tie.Need-setup-at-requires
-setup-at-requires c κs = search needs
+setup-of-flat-requires : tie.Need-setup-of-flat-requires
+setup-of-flat-requires c κs = search needs
 
-setup-at-requires-2 : tie.Need-setup-at-requires-2
-setup-at-requires-2 c κs = search needs
+setup-of-flat-requires-2 : tie.Need-setup-of-flat-requires-2
+setup-of-flat-requires-2 c κs = search needs
 
 agree-requires : tie.Need-agree-requires
 agree-requires c κs = search needs
@@ -40,7 +40,7 @@ flat-agreement-of-requires-3 c κs = search needs
 
 returns-3 : tie.Need-returns-3
 unfolding flatAgreement
-returns-3 c = c .flat-agreement-of3 .ensures ∙ simp (c .before .agree .ensures, c .before .before .setup-at2 .ensures, c .before .before .before .setup-at .ensures, le-leb _ _ (c .before .before .before .before .before .before .if1 .left), le-leb _ _ (c .before .before .before .before .if2 .left))
+returns-3 c = c .flat-agreement-of3 .ensures ∙ simp (c .before .agree .ensures, c .before .before .setup-of-flat2 .ensures, c .before .before .before .setup-of-flat .ensures, le-leb _ _ (c .before .before .before .before .before .before .if1 .left), le-leb _ _ (c .before .before .before .before .if2 .left))
 
 pub eos-agree-spec : {M : Type 1} → statement M
 eos-agree-spec =
@@ -52,8 +52,8 @@ eos-agree-spec =
     no-agreement-requires-2
     flat-agreement-of-requires-2
     returns-2
-    setup-at-requires
-    setup-at-requires-2
+    setup-of-flat-requires
+    setup-of-flat-requires-2
     agree-requires
     flat-agreement-of-requires-3
     returns-3)

@@ -1,8 +1,8 @@
 -- `port::eos_write_header` meets its contract.
-use Rattle.port.specs.Flat.{flatWritten, flatInto}
-use Rattle.port.proofs.Laws.{port-written}
-use mathlib.Core.Path.{sym, _∙_}
+use mathlib.Core.Path.{refl, sym, _∙_}
 use borrow.Author.Tests.{lt-leb}
+use Rattle.port.proofs.Laws.{port-written}
+use Rattle.port.specs.Flat.{flatWritten, flatInto}
 use borrow.Author.Needs.{needs}
 use Rattle.port.proofs.eos_write_header.Statement.{statement}
 use Rattle.port.proofs.eos_write_header.Tie as tie
@@ -16,16 +16,22 @@ enum-known-known c = search needs
 enum-told : tie.Need-enum-told
 enum-told c = search needs
 
+nothing-written-requires : tie.Need-nothing-written-requires
+nothing-written-requires c κs = search needs
+
 returns : tie.Need-returns
 unfolding flatWritten flatInto
-returns c = (rw (← (c .before .before .kind-of .ensures), c .enum-told .given .1), rw (← (c .before .before .kind-of .ensures), c .enum-told .given .1))
+returns c = simp (← (c .before .before .before .kind-of .ensures), c .before .enum-told .given .1, c .nothing-written .ensures) (refl, refl)
+
+nothing-written-requires-2 : tie.Need-nothing-written-requires-2
+nothing-written-requires-2 c κs = search needs
 
 returns-2 : tie.Need-returns-2
 unfolding flatWritten flatInto
-returns-2 c = (rw (← (c .before .before .before .before .before .kind-of .ensures), c .before .before .before .known .given .1, lt-leb _ _ (c .if1 .taken)), rw (← (c .before .before .before .before .before .kind-of .ensures), c .before .before .before .known .given .1, lt-leb _ _ (c .if1 .taken)))
+returns-2 c = simp (← (c .before .before .before .before .before .before .kind-of .ensures), c .before .before .before .before .known .given .1, lt-leb _ _ (c .before .if1 .taken), c .nothing-written2 .ensures) (refl, refl)
 
-header-at-requires : tie.Need-header-at-requires
-header-at-requires c κs = search needs
+header-of-flat-requires : tie.Need-header-of-flat-requires
+header-of-flat-requires c κs = search needs
 
 write-header-requires : tie.Need-write-header-requires
 write-header-requires c κs = search needs
@@ -34,7 +40,7 @@ same-length : tie.Need-same-length
 same-length c = search needs
 
 returns-3 : tie.Need-returns-3
-returns-3 c = port-written (c .before .before .before .before .before .before .before .before .before .before .before .before .before .args .f) _ _ _ _ (c .before .before .write-header .result) (sym (c .before .before .before .before .before .before .before .before .before .before .before .kind-of .ensures) ∙ c .before .before .before .before .before .before .before .before .before .known .given .1) (c .before .before .before .before .before .before .if1 .left) (c .before .before .before .before .header-at .ensures) (c .before .before .write-header .ensures .0) (c .before .before .write-header .ensures .1)
+returns-3 c = port-written (c .before .before .before .before .before .before .before .before .before .before .before .before .before .args .f) _ _ _ _ (c .before .before .write-header .result) (sym (c .before .before .before .before .before .before .before .before .before .before .before .kind-of .ensures) ∙ c .before .before .before .before .before .before .before .before .before .known .given .1) (c .before .before .before .before .before .before .if1 .left) (c .before .before .before .before .header-of-flat .ensures) (c .before .before .write-header .ensures .0) (c .before .before .write-header .ensures .1)
 
 pub eos-write-header-spec : {M : Type 1} → statement M
 eos-write-header-spec =
@@ -43,9 +49,11 @@ eos-write-header-spec =
     kind-of-requires
     enum-known-known
     enum-told
+    nothing-written-requires
     returns
+    nothing-written-requires-2
     returns-2
-    header-at-requires
+    header-of-flat-requires
     write-header-requires
     same-length
     returns-3)

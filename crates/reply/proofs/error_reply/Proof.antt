@@ -1,6 +1,6 @@
 -- `reply::error_reply` meets its contract.
-use mathlib.Core.Path.{refl}
 use Rattle.reply.proofs.Laws.{positive, none-fits}
+use mathlib.Core.Path.{refl}
 use borrow.Author.Tests.{le-leb, lt-leb}
 use Rattle.reply.specs.Reply.{errorReplyAnswer, errorReplyInto, errorReplyNumber, errorReply, replyKindFor}
 use Rattle.wire.specs.Wire.{words, joined}
@@ -8,17 +8,26 @@ use borrow.Author.Needs.{needs}
 use Rattle.reply.proofs.error_reply.Statement.{statement}
 use Rattle.reply.proofs.error_reply.Tie as tie
 
+nothing-written-requires : tie.Need-nothing-written-requires
+nothing-written-requires c κs = search needs
+
 returns : tie.Need-returns
 unfolding errorReplyAnswer errorReplyInto errorReplyNumber
-returns c = rw (c .if1 .taken) (refl, refl)
+returns c = rw (c .before .if1 .taken, c .nothing-written .ensures) (refl, refl)
+
+nothing-written-requires-2 : tie.Need-nothing-written-requires-2
+nothing-written-requires-2 c κs = search needs
 
 returns-2 : tie.Need-returns-2
 unfolding errorReplyAnswer errorReplyInto errorReplyNumber
-returns-2 c = simp (le-leb 1 _ (positive _ (c .before .if1 .left)), lt-leb _ 21 (c .if2 .taken)) (refl, refl)
+returns-2 c = simp (le-leb 1 _ (positive _ (c .before .before .if1 .left)), lt-leb _ 21 (c .before .if2 .taken), c .nothing-written2 .ensures) (refl, refl)
+
+nothing-written-requires-3 : tie.Need-nothing-written-requires-3
+nothing-written-requires-3 c κs = search needs
 
 returns-3 : tie.Need-returns-3
 unfolding errorReplyAnswer errorReplyInto errorReplyNumber errorReply replyKindFor words joined
-returns-3 c = simp (le-leb 1 _ (positive _ (c .before .before .if1 .left)), le-leb _ 21 (c .before .if2 .left), lt-leb 16 _ (c .if3 .taken), none-fits) (refl, refl)
+returns-3 c = simp (le-leb 1 _ (positive _ (c .before .before .before .if1 .left)), le-leb _ 21 (c .before .before .if2 .left), lt-leb 16 _ (c .before .if3 .taken), none-fits, c .nothing-written3 .ensures) (refl, refl)
 
 kind-for-requires : tie.Need-kind-for-requires
 kind-for-requires c κs = search needs
@@ -46,8 +55,11 @@ pub error-reply-spec : {M : Type 1} → statement M
 error-reply-spec =
     tie.close
     (tie.spec
+    nothing-written-requires
     returns
+    nothing-written-requires-2
     returns-2
+    nothing-written-requires-3
     returns-3
     kind-for-requires
     word-at-requires

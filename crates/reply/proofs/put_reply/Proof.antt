@@ -11,12 +11,18 @@ use Rattle.reply.proofs.put_reply.Tie as tie
 enum-told : tie.Need-enum-told
 enum-told c = search needs
 
+nothing-written-requires : tie.Need-nothing-written-requires
+nothing-written-requires c κs = search needs
+
 enum-told-2 : tie.Need-enum-told-2
 enum-told-2 c = search needs
 
+nothing-written-requires-2 : tie.Need-nothing-written-requires-2
+nothing-written-requires-2 c κs = search needs
+
 returns : tie.Need-returns
 unfolding words joined wordBytes
-returns c = simp (c .before .enum-told2 .given .1, lt-leb _ _ (c .if1 .taken)) (refl, refl)
+returns c = simp (c .before .before .enum-told2 .given .1, lt-leb _ _ (c .before .if1 .taken), c .nothing-written2 .ensures) (refl, refl)
 
 put-version-requires : tie.Need-put-version-requires
 put-version-requires c κs = search needs
@@ -24,16 +30,19 @@ put-version-requires c κs = search needs
 enum-told-3 : tie.Need-enum-told-3
 enum-told-3 c = search needs
 
+nothing-written-requires-3 : tie.Need-nothing-written-requires-3
+nothing-written-requires-3 c κs = search needs
+
 returns-2 : tie.Need-returns-2
 unfolding words joined wordBytes
-returns-2 c = simp (c .before .enum-told3 .given .1, lt-leb _ _ (c .if2 .taken)) (refl, refl)
+returns-2 c = simp (c .before .before .enum-told3 .given .1, lt-leb _ _ (c .before .if2 .taken), c .nothing-written3 .ensures) (refl, refl)
 
 put-common-requires : tie.Need-put-common-requires
 put-common-requires c κs = search needs
 
 returns-3 : tie.Need-returns-3
 unfolding words joined
-returns-3 c = simp (c .enum-told .given .1, none-fits) (refl, refl)
+returns-3 c = simp (c .before .enum-told .given .1, none-fits, c .nothing-written .ensures) (refl, refl)
 
 same-length : tie.Need-same-length
 same-length c = search needs
@@ -54,10 +63,13 @@ put-reply-spec =
     tie.close
     (tie.spec
     enum-told
+    nothing-written-requires
     enum-told-2
+    nothing-written-requires-2
     returns
     put-version-requires
     enum-told-3
+    nothing-written-requires-3
     returns-2
     put-common-requires
     returns-3

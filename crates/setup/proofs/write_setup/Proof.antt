@@ -11,13 +11,19 @@ use Rattle.setup.proofs.write_setup.Tie as tie
 setup-in-rule-requires : tie.Need-setup-in-rule-requires
 setup-in-rule-requires c κs = search needs
 
+nothing-written-requires : tie.Need-nothing-written-requires
+nothing-written-requires c κs = search needs
+
 returns : tie.Need-returns
 unfolding writeSetupAnswer writtenSetup writeSetupNumber
-returns c = simp (← (c .before .setup-in-rule .ensures), not-true (c .before .setup-in-rule .result) (c .if1 .taken)) (refl, refl)
+returns c = simp (← (c .before .before .setup-in-rule .ensures), not-true (c .before .before .setup-in-rule .result) (c .before .if1 .taken), c .nothing-written .ensures) (refl, refl)
+
+nothing-written-requires-2 : tie.Need-nothing-written-requires-2
+nothing-written-requires-2 c κs = search needs
 
 returns-2 : tie.Need-returns-2
 unfolding writeSetupAnswer writtenSetup writeSetupNumber setupBytes wordBytes
-returns-2 c = simp (← (c .before .before .setup-in-rule .ensures), not-false (c .before .before .setup-in-rule .result) (c .before .if1 .left), lt-leb _ _ (c .if2 .taken)) (refl, refl)
+returns-2 c = simp (← (c .before .before .before .setup-in-rule .ensures), not-false (c .before .before .before .setup-in-rule .result) (c .before .before .if1 .left), lt-leb _ _ (c .before .if2 .taken), c .nothing-written2 .ensures) (refl, refl)
 
 put-setup-requires : tie.Need-put-setup-requires
 put-setup-requires c κs = (sym (c .before .before .before .setup-in-rule .ensures) ∙ not-false (c .before .before .before .setup-in-rule .result) (c .before .before .if1 .left), c .before .if2 .left)
@@ -32,4 +38,12 @@ returns-3 c = simp (← (c .before .before .before .before .before .before .setu
 pub write-setup-spec : {M : Type 1} → statement M
 write-setup-spec =
     tie.close
-    (tie.spec setup-in-rule-requires returns returns-2 put-setup-requires same-length returns-3)
+    (tie.spec
+    setup-in-rule-requires
+    nothing-written-requires
+    returns
+    nothing-written-requires-2
+    returns-2
+    put-setup-requires
+    same-length
+    returns-3)

@@ -1,5 +1,5 @@
 -- `writer::write_header` meets its contract.
-use mathlib.Core.Path.{sym, _∙_}
+use mathlib.Core.Path.{refl, sym, _∙_}
 use borrow.Author.Tests.{ne-eqb}
 use borrow.Author.Needs.{needs}
 use Rattle.writer.specs.Write.{writeAnswer, writtenInto}
@@ -11,9 +11,12 @@ use Rattle.writer.proofs.write_header.Tie as tie
 write-number-requires : tie.Need-write-number-requires
 write-number-requires c κs = search needs
 
+nothing-written-requires : tie.Need-nothing-written-requires
+nothing-written-requires c κs = search needs
+
 returns : tie.Need-returns
 unfolding writeAnswer writtenInto
-returns c = (rw (← (c .before .write-number .ensures), ne-eqb _ _ (c .if1 .taken)), rw (← (c .before .write-number .ensures), ne-eqb _ _ (c .if1 .taken)))
+returns c = simp (← (c .before .before .write-number .ensures), ne-eqb _ _ (c .before .if1 .taken), c .nothing-written .ensures) (refl, refl)
 
 put-header-requires : tie.Need-put-header-requires
 put-header-requires c κs = accepted (c .before .before .before .before .args .h) _ (sym (c .before .before .write-number .ensures) ∙ c .before .if1 .left)
@@ -30,4 +33,4 @@ returns-2 c =
 
 pub write-header-spec : {M : Type 1} → statement M
 write-header-spec =
-    tie.close (tie.spec write-number-requires returns put-header-requires same-length returns-2)
+    tie.close (tie.spec write-number-requires nothing-written-requires returns put-header-requires same-length returns-2)
