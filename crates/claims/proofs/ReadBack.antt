@@ -11,8 +11,7 @@ use lib.ListN.{length, drop}
 use lib.Seq.{drop-drop}
 use lib.Dec.{leb, eqb}
 use Rattle.wire.specs.Wire.{wordAt, segmentAt, wordBytes, segmentBytes, readSegmentBytes, joined}
-use Rattle.wire.specs.Answers.{check}
-use Rattle.wire.proofs.Laws.{check-passed}
+use Rattle.lists.proofs.Positions.{rises}
 use Rattle.lists.specs.Parsed.{done, each}
 use Rattle.lists.specs.Lists.{markerOf, readEntry, readList, positionsNumber, segments, counted, writeList, replyChunk}
 use Rattle.writer.specs.Bytes.{entryBytes, countedBytes, chunkBytes, readListBytes, writeListBytes, replyBytes, errorBytes, procedureOf, restBytes, fixedBytes, headerBytes}
@@ -39,20 +38,6 @@ marker-end r = simp (word-of-back 0 r (omega arith))
 pub marker-entry : (r : List ℕ) → markerOf (wordBytes 1 ++ r) ≡ marker.Entry
 unfolding markerOf
 marker-entry r = simp (word-of-back 1 r (omega arith))
-
--- The rule of positionsNumber, at the first entry of a list and at the others.
-pub record Rises (last : ℕ) (x : ReadSegment) (l : List ReadSegment) : Type 0 where
-  pub aligned : eqb (x .position % 4) 0 ≡ true
-  pub above : leb last (x .position) ≡ true
-  pub onward : positionsNumber (x .position) l 0 ≡ 0
-
--- Positions that pass pass at the first entry and behind it.
-pub rises : (last : ℕ) (x : ReadSegment) (l : List ReadSegment) → positionsNumber last (x ∷ l) 0 ≡ 0 → Rises last x l
-unfolding positionsNumber
-rises last x l e =
-    let a : (eqb (x .position % 4) 0 ≡ true) × (check (leb last (x .position)) 8 (positionsNumber (x .position) l 0) ≡ 0) = check-passed _ 9 _ (omega arith) e in
-    let b : (leb last (x .position) ≡ true) × (positionsNumber (x .position) l 0 ≡ 0) = check-passed _ 8 _ (omega arith) (a .1) in
-    record { aligned = a .0; above = b .0; onward = b .1 }
 
 -- An entry of the read list that was written is read.
 entry-back : (last : ℕ) (x : ReadSegment) (r : List ℕ) → ReadSegmentFits x → eqb (x .position % 4) 0 ≡ true → leb last (x .position) ≡ true →

@@ -17,12 +17,12 @@ use Rattle.wire.specs.declared.Word.the-variants as word
 use Rattle.wire.specs.declared.Segment.{Segment}
 use Rattle.wire.specs.declared.ReadSegment.{ReadSegment}
 use Rattle.lists.specs.Parsed.{Parsed, refused, done, each}
-use Rattle.lists.specs.Lists.{afterWord, readList, writeList, replyChunk}
+use Rattle.lists.specs.Lists.{afterWord, readList, writeList, replyChunk, positionsNumber}
 use Rattle.lists.specs.Steps.{markedSegmentAt, chunksAt, ChunksFit, withChunks, zeroReads}
 use Rattle.lists.specs.declared.WriteList.{WriteList}
 use Rattle.lists.proofs.Laws.{never, required, both, word-room, Chunk, chunk-of, ChunkFront, chunk-front}
 use Rattle.lists.proofs.Laws as laws
-use Rattle.lists.proofs.Found.{reads-of, writes-of, reply-refused, reply-absent, reply-chunk, ReadsAre, WritesAre}
+use Rattle.lists.proofs.Found.{reads-of, writes-of, reply-refused, reply-absent, reply-chunk, ReadsAre, WritesAre, reads-rise}
 use Rattle.header.specs.Content.{Content, padded, readListOf, writeListOf, replyChunkOf, headerOf}
 use Rattle.header.specs.Frame.{threeParts, errorContent, errorBody, nothingBehind, byProcedure, readFrame, readAnswer, payloadOf}
 use Rattle.header.specs.Shape.{isPresent, replies, shapeOf, frameWalk, emptyReply, bareContent}
@@ -95,6 +95,7 @@ pub record Lies (s : List ℕ) (c : Content) (t : List ℕ) : Type 0 where
   pub reads-few : length (c .reads) ≤ 16
   pub reads-long : 20 + length (c .reads) * 24 ≤ length s
   pub reads-are : c .reads ≡ each 24 markedSegmentAt (length (c .reads)) (drop 16 s)
+  pub reads-rise : positionsNumber 0 (c .reads) 0 ≡ 0
   pub writes-few : length (c .writes) ≤ 4
   pub writes-within : length (joined (λ w. w) (c .writes)) ≤ 16
   pub writes-fit : ChunksFit (length (c .writes)) 16 (drop (20 + length (c .reads) * 24) s)
@@ -109,12 +110,12 @@ parts-lie kind s c t long e =
     let r = both (replyChunk (b .behind)) (b .then) in
     let x = reads-of 16 0 (drop 16 s) (a .first) (a .behind) (a .is) in
     let y = writes-of 4 16 (a .behind) (b .first) (b .behind) (b .is) in
-    go (a .first) (b .first) (r .first) (a .behind) (b .behind) (r .behind) x y (r .is) (r .then)
+    go (a .first) (b .first) (r .first) (a .behind) (b .behind) (r .behind) x (reads-rise 16 0 (drop 16 s) (a .first) (a .behind) (a .is)) y (r .is) (r .then)
   where
     go : (reads : List ReadSegment) (writes : List (List Segment)) (reply : Option (List Segment)) (u v w : List ℕ) →
-        ReadsAre 16 (drop 16 s) reads u → WritesAre 4 16 u writes v → replyChunk v ≡ done reply w →
+        ReadsAre 16 (drop 16 s) reads u → positionsNumber 0 reads 0 ≡ 0 → WritesAre 4 16 u writes v → replyChunk v ≡ done reply w →
         done (record { kind = kind; xid = wordAt s 0; credit = wordAt s 8; reads = reads; writes = writes; reply = reply }) w ≡ done c t → Lies s c t
-    go reads writes reply u v w x y r q =
+    go reads writes reply u v w x rising y r q =
         let is : c ≡ record { kind = kind; xid = wordAt s 0; credit = wordAt s 8; reads = reads; writes = writes; reply = reply } = cc in
         let rest : t ≡ w = cc in
         let front = length-drop 16 s in
@@ -132,6 +133,7 @@ parts-lie kind s c t long e =
           reads-few = x .few;
           reads-long = enough;
           reads-are = x .is;
+          reads-rise = rising;
           writes-few = y .few;
           writes-within = y .within;
           writes-fit = subst (ChunksFit (length writes) 16) here (y .fits);
@@ -141,7 +143,7 @@ parts-lie kind s c t long e =
 
 -- An ERROR header has empty lists, wherever it ends.
 bare-lies : (e : ErrorKind) (s : List ℕ) (t : List ℕ) (end : ℕ) → 20 ≤ length s → end ≤ length s → t ≡ drop end s → Lies s (errorContent e (wordAt s 0) (wordAt s 8)) t
-unfolding ChunksFit chunksAt each joined
+unfolding ChunksFit chunksAt each joined positionsNumber
 bare-lies e s t end long fits rest =
     let size : length t ≡ length s - end = ap length rest ∙ length-drop end s in
     let n : end ≡ length s - length t = omega arith in
@@ -151,6 +153,7 @@ bare-lies e s t end long fits rest =
       reads-few = omega arith;
       reads-long = omega arith;
       reads-are = refl;
+      reads-rise = refl;
       writes-few = omega arith;
       writes-within = omega arith;
       writes-fit = tt;

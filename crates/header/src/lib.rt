@@ -300,7 +300,7 @@ fn fill_header(s: &[u8], shape: Shape) -> Header
 }
 
 // The number of a frame that was refused.
-fn frame_refusal(w: FrameWalk) -> u32
+pub fn frame_refusal(w: FrameWalk) -> u32
     ensures { λ r. ⌜ r ≡ frameRefusal w ⌝ }
 {
     match w {

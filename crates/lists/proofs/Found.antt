@@ -8,11 +8,12 @@ use native.Mathlib.Omega.{arith}
 use native.Mathlib.Nat.{suc-mul}
 use lib.ListN.{length, drop, length-drop, length-append}
 use lib.Seq.{drop-drop}
+use borrow.Author.Tests.{eq-eqb, le-leb}
 use Rattle.wire.specs.Wire.{wordAt, segmentAt, readSegmentAt, joined}
 use Rattle.wire.specs.declared.Segment.{Segment}
 use Rattle.wire.specs.declared.ReadSegment.{ReadSegment}
 use Rattle.lists.specs.Parsed.{Parsed, refused, done, prepend, each}
-use Rattle.lists.specs.Lists.{markerOf, readList, counted, writeList, replyChunk}
+use Rattle.lists.specs.Lists.{markerOf, readList, positionsNumber, counted, writeList, replyChunk}
 use Rattle.lists.specs.Steps.{chunkStep, listWalk, packedWalk, markedSegmentAt, chunksAt, ChunksFit}
 use Rattle.lists.specs.declared.Marker.the-variants as marker
 use Rattle.lists.specs.declared.ChunkStep.the-variants as chunk
@@ -79,17 +80,40 @@ reads-of zero last s l t e = go (read-front zero last s)
     go : ReadFront zero last s → ReadsAre zero s l t
     go (ends f h is) = reads-none zero s l t h (sym is ∙ e)
     go (faulty n f small is) = absurd (never (sym is ∙ e))
-    go (laws.ReadFront.goes x f h long at4 is) = absurd (omega arith)
+    go (laws.ReadFront.goes x f h long at4 is aligned rises) = absurd (omega arith)
 reads-of (suc room) last s l t e = go (read-front (suc room) last s) (reads-of room)
   where
     go : ReadFront (suc room) last s → ((last : ℕ) (s : List ℕ) (l : List ReadSegment) (t : List ℕ) → readList room last s ≡ done l t → ReadsAre room s l t) → ReadsAre (suc room) s l t
     go (ends f h is) again = reads-none (suc room) s l t h (sym is ∙ e)
     go (faulty n f small is) again = absurd (never (sym is ∙ e))
-    go (laws.ReadFront.goes x f h long at4 is) again =
+    go (laws.ReadFront.goes x f h long at4 is aligned rises) again =
         let r : suc room - 1 ≡ room = omega arith in
         let q : prepend x (readList room (x .position) (drop 24 s)) ≡ done l t = rw (← r) (sym is ∙ e) in
         let m = longer x (readList room (x .position) (drop 24 s)) l t q in
         rw (m .is) (reads-more room s x (m .rest) t long at4 (again (x .position) (drop 24 s) (m .rest) t (m .read)))
+
+none-of : {l : List ReadSegment} {s t : List ℕ} → done [] s ≡ done l t → l ≡ []
+none-of e = cc
+
+-- The positions of a read list that was read are in order.
+pub reads-rise : (room last : ℕ) (s : List ℕ) (l : List ReadSegment) (t : List ℕ) → readList room last s ≡ done l t → positionsNumber last l 0 ≡ 0
+unfolding positionsNumber
+reads-rise zero last s l t e = go (read-front zero last s)
+  where
+    go : ReadFront zero last s → positionsNumber last l 0 ≡ 0
+    go (ends f h is) = let none-read : l ≡ [] = none-of (sym is ∙ e) in rw none-read
+    go (faulty n f small is) = absurd (never (sym is ∙ e))
+    go (laws.ReadFront.goes x f h long at4 is aligned rises) = absurd (omega arith)
+reads-rise (suc room) last s l t e = go (read-front (suc room) last s) (reads-rise room)
+  where
+    go : ReadFront (suc room) last s → ((last : ℕ) (s : List ℕ) (l : List ReadSegment) (t : List ℕ) → readList room last s ≡ done l t → positionsNumber last l 0 ≡ 0) → positionsNumber last l 0 ≡ 0
+    go (ends f h is) again = let none-read : l ≡ [] = none-of (sym is ∙ e) in rw none-read
+    go (faulty n f small is) again = absurd (never (sym is ∙ e))
+    go (laws.ReadFront.goes x f h long at4 is aligned rises) again =
+        let r : suc room - 1 ≡ room = omega arith in
+        let q : prepend x (readList room (x .position) (drop 24 s)) ≡ done l t = rw (← r) (sym is ∙ e) in
+        let m = longer x (readList room (x .position) (drop 24 s)) l t q in
+        rw (m .is, eq-eqb _ _ aligned, le-leb _ _ rises) (again (x .position) (drop 24 s) (m .rest) t (m .read))
 
 -- No fault of a read list has a number above 9.
 pub read-number : (room last : ℕ) (s : List ℕ) (n : ℕ) → readList room last s ≡ refused n → n ≤ 9
@@ -98,7 +122,7 @@ read-number zero last s n e = go (read-front zero last s)
     go : ReadFront zero last s → n ≤ 9
     go (ends f h is) = absurd (never (sym e ∙ is))
     go (faulty m f small is) = let same : refused m ≡ refused n = sym is ∙ e in let equal : m ≡ n = cc in omega arith
-    go (laws.ReadFront.goes x f h long at4 is) = absurd (omega arith)
+    go (laws.ReadFront.goes x f h long at4 is aligned rises) = absurd (omega arith)
 read-number (suc room) last s n e = go (read-front (suc room) last s) (read-number room)
   where
     behind : (x : ReadSegment) (p : Parsed (List ReadSegment)) → prepend x p ≡ refused n → p ≡ refused n
@@ -108,7 +132,7 @@ read-number (suc room) last s n e = go (read-front (suc room) last s) (read-numb
     go : ReadFront (suc room) last s → ((last : ℕ) (s : List ℕ) (n : ℕ) → readList room last s ≡ refused n → n ≤ 9) → n ≤ 9
     go (ends f h is) again = absurd (never (sym e ∙ is))
     go (faulty m f small is) again = let same : refused m ≡ refused n = sym is ∙ e in let equal : m ≡ n = cc in omega arith
-    go (laws.ReadFront.goes x f h long at4 is) again =
+    go (laws.ReadFront.goes x f h long at4 is aligned rises) again =
         let r : suc room - 1 ≡ room = omega arith in
         let q : prepend x (readList room (x .position) (drop 24 s)) ≡ refused n = rw (← r) (sym is ∙ e) in
         again (x .position) (drop 24 s) n (behind x (readList room (x .position) (drop 24 s)) q)

@@ -120,12 +120,16 @@ entry-number last s n e = go (leb 20 (length s)) (eqb (wordAt s 0 % 4) 0) (leb l
     go true false c q = let nine : 9 ≡ n = cc in omega arith
     go false b c q = let five : 5 ≡ n = cc in omega arith
 
+position-of : (x : ReadSegment) (s : List ℕ) → x ≡ readSegmentAt s 0 → x .position ≡ wordAt s 0
+unfolding readSegmentAt
+position-of x s e = ap (λ (y : ReadSegment). y .position) e
+
 -- The three things that can stand at the front of a read list.
 pub data ReadFront (room last : ℕ) (s : List ℕ) : Type 0 where
   ends : readStep room last s ≡ read.End → 4 ≤ length s → readList room last s ≡ done [] (drop 4 s) → ReadFront room last s
   faulty : (n : ℕ) → readStep room last s ≡ read.Refused n → n ≤ 9 → readList room last s ≡ refused n → ReadFront room last s
   goes : (x : ReadSegment) → readStep room last s ≡ read.Entry (x .position) → 0 < room → 24 ≤ length s → x ≡ readSegmentAt s 4 →
-      readList room last s ≡ prepend x (readList (room - 1) (x .position) (drop 24 s)) → ReadFront room last s
+      readList room last s ≡ prepend x (readList (room - 1) (x .position) (drop 24 s)) → x .position % 4 ≡ 0 → last ≤ x .position → ReadFront room last s
 
 pub read-front : (room last : ℕ) (s : List ℕ) → ReadFront room last s
 unfolding readStep readList
@@ -145,7 +149,8 @@ read-front (suc room) last s = go (markerOf s) refl
         let is : x ≡ readSegmentAt s 4 = h .is ∙ read-segment-drop 4 0 s in
         let rest : u ≡ drop 24 s = h .behind ∙ drop-drop 20 4 s in
         let room-is : suc room - 1 ≡ room = omega arith in
-        goes x (rw (e, eqb·suc-zero room, q)) (omega arith) (omega (arith, h .long, length-drop 4 s)) is (rw (e, q, rest, room-is))
+        let at-four : x .position ≡ wordAt (drop 4 s) 0 = position-of x (drop 4 s) (h .is) in
+        goes x (rw (e, eqb·suc-zero room, q)) (omega arith) (omega (arith, h .long, length-drop 4 s)) is (rw (e, q, rest, room-is)) (rw at-four (h .aligned)) (rw at-four (h .rises))
 
     go : (m : Marker) → markerOf s ≡ m → ReadFront (suc room) last s
     go (marker.Refused n) e = faulty n (rw e) (marker-number s n e) (rw e)
@@ -250,7 +255,7 @@ module _ (room last : ℕ) (s : List ℕ) where
       go : ReadFront room last s → before ≡ packedWalk before (readList room last s)
       go (ends f long is) = rw (is, add-zero)
       go (faulty n f small is) = absurd (let z : _≡_ {A = ℕ} 0 1 = cc in omega arith)
-      go (goes x f pos long at4 is) = absurd (let z : _≡_ {A = ℕ} 0 1 = cc in omega arith)
+      go (goes x f pos long at4 is aligned rises) = absurd (let z : _≡_ {A = ℕ} 0 1 = cc in omega arith)
 
   pub read-refused : (n : ℕ) → readStep room last s ≡ read.Refused n → (before : ℕ) → 256 + n ≡ packedWalk before (readList room last s)
   unfolding packedWalk
@@ -259,7 +264,7 @@ module _ (room last : ℕ) (s : List ℕ) where
       go : ReadFront room last s → 256 + n ≡ packedWalk before (readList room last s)
       go (ends f long is) = absurd (let z : _≡_ {A = ℕ} 0 1 = cc in omega arith)
       go (faulty m f small is) = let same : n ≡ m = cc in rw (is, same)
-      go (goes x f pos long at4 is) = absurd (let z : _≡_ {A = ℕ} 0 1 = cc in omega arith)
+      go (goes x f pos long at4 is aligned rises) = absurd (let z : _≡_ {A = ℕ} 0 1 = cc in omega arith)
 
   pub record Further (p : ℕ) : Type 0 where
     pub room-left : 0 < room
@@ -272,7 +277,7 @@ module _ (room last : ℕ) (s : List ℕ) where
       go : ReadFront room last s → Further p
       go (ends f long is) = absurd (let z : _≡_ {A = ℕ} 0 1 = cc in omega arith)
       go (faulty m f small is) = absurd (let z : _≡_ {A = ℕ} 0 1 = cc in omega arith)
-      go (goes x f pos long at4 is) =
+      go (goes x f pos long at4 is aligned rises) =
           let same : p ≡ x .position = cc in
           record { room-left = pos; long = long; rest = λ before. rw (is, same) (packed-prepend before x _) }
 

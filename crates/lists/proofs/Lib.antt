@@ -1,3 +1,4 @@
 pub mod Items
 pub mod Laws
 pub mod Found
+pub mod Positions

@@ -1,0 +1,7 @@
+pub mod Joins
+pub mod Rising
+pub mod Held
+pub mod Walked
+pub mod Stood
+pub mod Putting
+pub mod Seeking
