@@ -1,0 +1,171 @@
+-- What a start finds out about a frame, and what it answers.
+-- Assumes nothing.
+use mathlib.Core.Path.{_≡_, refl, sym, ap, subst, _∙_}
+use mathlib.Core.Bool.{Bool, true, false, cond}
+use mathlib.Core.List.{List, []}
+use Prim.Native.Nat.{ℕ, _+_, _-_, _%_, _≤_}
+use native.Mathlib.Omega.{arith}
+use borrow.Author.Tests.{leb-true, eqb-true, ne-eqb}
+use lib.ListN.{length, take, drop, replicate, length-drop}
+use lib.Seq.{take-append-seam}
+use lib.Dec.{leb, eqb}
+use Rattle.wire.specs.Wire.{stored, zeroReadSegment}
+use Rattle.wire.specs.declared.ReadSegment.{ReadSegment}
+use Rattle.wire.proofs.Laws.{check-passed}
+use Rattle.lists.specs.Parsed.{Parsed, refused, done, each}
+use Rattle.lists.specs.Lists.{positionsNumber}
+use Rattle.lists.specs.Steps.{markedSegmentAt, zeroReads}
+use Rattle.header.specs.Content.{Content, padded}
+use Rattle.header.specs.Frame.{readFrame}
+use Rattle.header.specs.declared.Kind.{Kind}
+use Rattle.header.specs.declared.Kind.the-variants.{Msg, Nomsg, Error}
+use Rattle.header.specs.declared.Shape.{Shape}
+use Rattle.header.proofs.Lies.{Found, bounds, stored-padded, payload-lies}
+use Rattle.header.proofs.Ends.{nomsg-ends}
+use Rattle.layout.specs.Places.{put}
+use Rattle.layout.specs.Layout.{kindFits, anyAtZero, zeroLength, otherChunks, baseLength, stands, messageLength, placeNumber, places, basePlaces, paddingPlaces}
+use Rattle.layout.specs.Walks.{found, ChunksOf, measuredOf}
+use Rattle.layout.specs.declared.Run.{Run}
+use Rattle.layout.specs.declared.Chunks.{Chunks}
+use Rattle.layout.specs.declared.Measured.{Measured}
+use Rattle.layout.proofs.Putting.{put-first}
+use Rattle.placing.specs.Sources.{Laid, sourcePlaces}
+use Rattle.placing.proofs.Laws.{length-base}
+use Rattle.assembly.specs.Assembly.{baseOf, startNumber, startState, noState, startAnswer, laid, startedInto, startInto}
+use Rattle.assembly.specs.declared.State.{State}
+use Rattle.assembly.specs.declared.StartAnswer.{StartAnswer}
+use Rattle.assembly.specs.Judged.{judgedBase}
+
+zero-or : (message n : ℕ) (b : Bool) → eqb n 0 ≡ b → cond {A = Measured} b (record { number = 0; message = message }) (record { number = n; message = 0 }) .number ≡ n
+zero-or message n true e = sym (eqb-true n 0 e)
+zero-or message n false e = refl
+
+-- The number that measuring gives.
+pub measured-number : (kind : Kind) (base : ℕ) (c : Chunks) (room : ℕ) → measuredOf kind base c room .number ≡ placeNumber kind (c .«any_zero») base (found c) room
+unfolding measuredOf
+measured-number kind base c room = by (placeNumber kind (c .«any_zero») base (found c) room)
+  where
+    by : (n : ℕ) → cond {A = Measured} (eqb n 0) (record { number = 0; message = messageLength base (found c) }) (record { number = n; message = 0 }) .number ≡ n
+    by n = zero-or (messageLength base (found c)) n (eqb n 0) refl
+
+-- What a number 0 says of the chunks.
+pub record Passed (kind : Kind) (atZero : Bool) (base : ℕ) (cs : List Run) (room : ℕ) : Type 0 where
+  pub fits : kindFits kind atZero ≡ true
+  pub stand : stands base 0 0 cs ≡ true
+  pub long : messageLength base cs ≤ 1048576
+  pub holds : messageLength base cs ≤ room
+
+pub place-passed : (kind : Kind) (atZero : Bool) (base : ℕ) (cs : List Run) (room : ℕ) → placeNumber kind atZero base cs room ≡ 0 → Passed kind atZero base cs room
+unfolding placeNumber
+place-passed kind atZero base cs room e =
+    let a = check-passed (kindFits kind atZero) 12 _ (omega arith) e in
+    let b = check-passed (eqb (base % 4) 0) 13 _ (omega arith) (a .1) in
+    let d = check-passed (stands base 0 0 cs) 14 _ (omega arith) (b .1) in
+    let f = check-passed (leb (messageLength base cs) 1048576) 15 _ (omega arith) (d .1) in
+    let g = check-passed (leb (messageLength base cs) room) 16 0 (omega arith) (f .1) in
+    record { fits = a .0; stand = d .0; long = leb-true _ _ (f .0); holds = leb-true _ _ (g .0) }
+
+-- The base length is that of the definition.
+base-same : (kind : Kind) (inline bytes : ℕ) (reads : List ReadSegment) → bytes ≡ zeroLength reads → judgedBase kind inline bytes ≡ baseLength kind inline reads
+base-same Msg inline bytes reads e = refl
+base-same Nomsg inline bytes reads e = e
+base-same (Error x) inline bytes reads e = refl
+
+-- The inline bytes are within the base.
+inline-within : (kind : Kind) (atZero : Bool) (inline : List ℕ) (reads : List ReadSegment) → kindFits kind atZero ≡ true → (kind ≡ Nomsg → inline ≡ []) → length inline ≤ baseLength kind (length inline) reads
+inline-within Msg atZero inline reads f n = omega arith
+inline-within Nomsg atZero inline reads f n = rw (n refl) (omega arith)
+inline-within (Error x) atZero inline reads f n = absurd (let z : _≡_ {A = ℕ} 0 1 = cc in omega arith)
+
+module _ (s : List ℕ) (shape : Shape) (f : Found s shape) (segs : List ReadSegment) (filled : segs ≡ stored zeroReads 0 (each 24 markedSegmentAt (shape .reads) (drop 16 s))) where
+  abbrev content : Content
+  content = f .content
+
+  kind-is : shape .kind ≡ content .kind
+  kind-is = ap (λ (x : Shape). x .kind) (f .shape-is)
+
+  count-is : shape .reads ≡ length (content .reads)
+  count-is = ap (λ (x : Shape). x .reads) (f .shape-is)
+
+  -- The array holds the read list of the frame, its unused places zero.
+  segs-are : segs ≡ padded 16 zeroReadSegment (content .reads)
+  segs-are =
+      filled ∙ ap (λ (n : ℕ). stored zeroReads 0 (each 24 markedSegmentAt n (drop 16 s))) count-is
+      ∙ ap (stored zeroReads 0) (sym (f .lies .reads-are)) ∙ stored-padded 16 zeroReadSegment (content .reads) (f .lies .reads-few)
+
+  reads-are : take (shape .reads) segs ≡ content .reads
+  reads-are =
+      ap (λ (n : ℕ). take n segs) count-is ∙ ap (take (length (content .reads))) segs-are ∙ take-append-seam (content .reads) _
+
+  pub chunks-ready : (shape .reads ≤ 16) × (positionsNumber 0 (take (shape .reads) segs) 0 ≡ 0)
+  chunks-ready = (bounds s shape f .reads-few, rw reads-are (f .lies .reads-rise))
+
+  inline-is : drop (shape .end) s ≡ f .behind
+  inline-is = payload-lies s shape f .1 ∙ rw (f .read)
+
+  inline-length : length s - shape .end ≡ length (f .behind)
+  inline-length = sym (length-drop (shape .end) s) ∙ ap length inline-is
+
+  module _ (c : Chunks) (k : ChunksOf (take (shape .reads) segs) c) (base : ℕ) (b : base ≡ judgedBase (shape .kind) (length s - shape .end) (c .«zero_length»)) (room : ℕ) where
+    base-is : base ≡ baseOf content (f .behind)
+    base-is =
+        b ∙ ap (λ (x : Kind). judgedBase x (length s - shape .end) (c .«zero_length»)) kind-is
+        ∙ ap (λ (n : ℕ). judgedBase (content .kind) n (c .«zero_length»)) inline-length
+        ∙ base-same (content .kind) (length (f .behind)) (c .«zero_length») (content .reads) (k .zero ∙ ap zeroLength reads-are)
+
+    pub number-is : placeNumber (shape .kind) (c .«any_zero») base (found c) room ≡ startNumber (readFrame s) room
+    unfolding startNumber
+    number-is =
+        let any = k .any ∙ ap anyAtZero reads-are in
+        let runs = k .runs ∙ ap otherChunks reads-are in
+        ap (λ (x : Kind). placeNumber x (c .«any_zero») base (found c) room) kind-is
+        ∙ ap (λ (x : Bool). placeNumber (content .kind) x base (found c) room) any
+        ∙ ap (λ (x : ℕ). placeNumber (content .kind) (anyAtZero (content .reads)) x (found c) room) base-is
+        ∙ ap (λ (x : List Run). placeNumber (content .kind) (anyAtZero (content .reads)) (baseOf content (f .behind)) x room) runs
+        ∙ ap (λ (p : Parsed Content). startNumber p room) (sym (f .read))
+
+    pub not-started-is : (n : ℕ) → n ≡ startNumber (readFrame s) room → (n ≡ 0 → ⊥) → (out : List ℕ) → length out ≡ room →
+        (record { state = noState; number = n } ≡ startAnswer (readFrame s) room) × (out ≡ startInto (readFrame s) out)
+    unfolding startAnswer startInto
+    not-started-is n e some out l = simp (l, ← e, ne-eqb n 0 some) (refl, refl)
+
+    -- What holds where a start is accepted.
+    pub start-laid : placeNumber (shape .kind) (c .«any_zero») base (found c) room ≡ 0 →
+        Laid base (found c) × (messageLength base (found c) ≤ room) × (length s ≤ shape .end + base)
+    start-laid e =
+        let p = place-passed (shape .kind) (c .«any_zero») base (found c) room e in
+        let within = inline-within (content .kind) (c .«any_zero») (f .behind) (content .reads) (subst (λ (x : Kind). kindFits x (c .«any_zero») ≡ true) kind-is (p .fits)) (nomsg-ends s content (f .behind) (f .read)) in
+        let long = p .long in
+        let same = base-is in
+        let inline = inline-length in
+        (record { bounded = k .bounded; stand = p .stand; small = omega arith }, p .holds, omega arith)
+
+    pub started-is : placeNumber (shape .kind) (c .«any_zero») base (found c) room ≡ 0 → (out after : List ℕ) → length out ≡ room → after ≡ laid base (found c) (drop (shape .end) s) out →
+        (record { state = record { reads = record { segments = segs; count = shape .reads }; kind = shape .kind; base = base; buffer = room; taken = 0 }; number = 0 } ≡ startAnswer (readFrame s) room)
+        × (after ≡ startInto (readFrame s) out)
+    unfolding startAnswer startInto
+    started-is e out after l w =
+        let passed : startNumber (done content (f .behind)) room ≡ 0 = ap (λ (p : Parsed Content). startNumber p room) (sym (f .read)) ∙ sym number-is ∙ e in
+        let state : record { reads = record { segments = segs; count = shape .reads }; kind = shape .kind; base = base; buffer = room; taken = 0 } ≡ startState (done content (f .behind)) room =
+        (λ i. record { reads = record { segments = segs-are i; count = count-is i }; kind = kind-is i; base = base-is i; buffer = room; taken = 0 }) in
+        let buffer : laid base (found c) (drop (shape .end) s) out ≡ startedInto (done content (f .behind)) out =
+        ap (λ (x : List ℕ). laid base (found c) x out) inline-is ∙ ap (λ (x : ℕ). laid x (found c) (f .behind) out) base-is
+        ∙ ap (λ (x : List Run). laid (baseOf content (f .behind)) x (f .behind) out) (k .runs ∙ ap otherChunks reads-are) in
+        simp (l, f .read, passed) (ap (λ (x : State). record { state = x; number = 0 }) state, w ∙ buffer)
+
+-- A frame that the reader refuses.
+pub refused-is : (s : List ℕ) (n room : ℕ) (out : List ℕ) → readFrame s ≡ refused n → (record { state = noState; number = n } ≡ startAnswer (readFrame s) room) × (out ≡ startInto (readFrame s) out)
+unfolding startAnswer startInto startNumber
+refused-is s n room out e = rw e (by (eqb n 0) refl)
+  where
+    by : (b : Bool) → eqb n 0 ≡ b →
+        (_≡_ {A = StartAnswer} (record { state = noState; number = n }) (cond b (record { state = noState; number = 0 }) (record { state = noState; number = n }))) × (out ≡ cond b out out)
+    by true q = (rw (eqb-true n 0 q), refl)
+    by false q = (refl, refl)
+
+-- What laying a base and then the padding leaves.
+pub laid-by : (base : ℕ) (cs : List Run) (inline out placed after : List ℕ) → stands base 0 0 cs ≡ true → length inline ≤ base →
+    placed ≡ put (drop 0 (sourcePlaces true base cs)) inline out → after ≡ put (paddingPlaces cs) (replicate (length (paddingPlaces cs)) 0) placed → after ≡ laid base cs inline out
+unfolding laid
+laid-by base cs inline out placed after e short p q =
+    q ∙ rw (p, put-first (basePlaces base cs) (places cs) inline out (rw (length-base base cs e) short))

@@ -1,0 +1,44 @@
+-- `assembly::lay` meets its contract.
+use Rattle.assembly.proofs.Starting.{laid-by}
+use Rattle.placing.proofs.Laws.{length-based}
+use Rattle.layout.specs.Walks.{found}
+use Rattle.wire.proofs.Laws.{part-from}
+use lib.ListN.{drop, length-drop}
+use denote.Ref.{now}
+use native.Mathlib.Omega.{arith}
+use borrow.Author.Needs.{needs}
+use Rattle.assembly.proofs.lay.Statement.{statement}
+use Rattle.assembly.proofs.lay.Tie as tie
+
+sub-place : tie.Need-sub-place
+sub-place c = search needs
+
+part-place-start : tie.Need-part-place-start
+part-place-start c = search needs
+
+part-place-end : tie.Need-part-place-end
+part-place-end c = search needs
+
+place-requires : tie.Need-place-requires
+place-requires c κs = let a = c .before .before .before .before .before .args in let l = c .before .before .before .before .before .pre .1 in (c .before .before .before .before .before .pre .0, l, c .before .before .before .before .before .pre .2, rw (part-from (a .end) (now (a .frame))) (omega (arith, length-drop (a .end) (now (a .frame)), length-based (a .base) (found (a .c)) (l .stand), c .before .before .before .before .before .pre .3, c .before .before .before .before .before .pre .4)))
+
+clear-paddings-requires : tie.Need-clear-paddings-requires
+clear-paddings-requires c κs = search needs
+
+same-length : tie.Need-same-length
+same-length c = search needs
+
+returns : tie.Need-returns
+returns c = let a = c .before .before .before .before .before .before .before .before .before .before .before .before .args in let l = c .before .before .before .before .before .before .before .before .before .before .before .before .pre .1 in laid-by (a .base) (found (a .c)) (drop (a .end) (now (a .frame))) _ _ _ (l .stand) (omega (arith, length-drop (a .end) (now (a .frame)), c .before .before .before .before .before .before .before .before .before .before .before .before .pre .3, c .before .before .before .before .before .before .before .before .before .before .before .before .pre .4)) (rw (part-from (a .end) (now (a .frame))) at (c .before .before .before .before .before .before .place .ensures)) (c .before .before .clear-paddings .ensures)
+
+pub lay-spec : {M : Type 1} → statement M
+lay-spec =
+    tie.close
+    (tie.spec
+    sub-place
+    part-place-start
+    part-place-end
+    place-requires
+    clear-paddings-requires
+    same-length
+    returns)
