@@ -10,3 +10,7 @@ pub mod RoundTrip
 pub mod Examples
 pub mod Setup
 pub mod Replies
+pub mod Cutting
+pub mod Tallied
+pub mod Recut
+pub mod Demand3

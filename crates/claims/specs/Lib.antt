@@ -1,3 +1,4 @@
 pub mod RoundTrip
 pub mod Examples
 pub mod Replies
+pub mod Tally
