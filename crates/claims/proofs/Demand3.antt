@@ -97,7 +97,7 @@ unfolding startAnswer startInto
 accepted-start p out e = simp e (refl, refl)
 
 module _ (frame out : List ℕ) (c : Content) (inline : List ℕ) (b : AllBytes frame) (read : readFrame frame ≡ done c inline) (ok : startAnswer (readFrame frame) (length out) .number ≡ 0) where
-  zero-number : startNumber (done c inline) (length out) ≡ 0
+  pub zero-number : startNumber (done c inline) (length out) ≡ 0
   zero-number = ap (λ (p : Parsed Content). startNumber p (length out)) (sym read) ∙ number-zero (readFrame frame) (length out) ok
 
   module _ (cut : List ReadSegment) (k : CutOf (c .reads) cut) where
@@ -110,7 +110,7 @@ module _ (frame out : List ℕ) (c : Content) (inline : List ℕ) (b : AllBytes 
     cut-zero : startNumber (done (withReads c cut) inline) (length out) ≡ 0
     cut-zero = cut-accepted c inline out cut zero-number (frame-done frame c inline b read .allowed .rising) (k .cuts) (k .few)
 
-    all-tallied : (calls : List Call) → replayed (recut frame (c .reads) cut) out calls ≡ tally c inline out [] calls
+    pub all-tallied : (calls : List Call) → replayed (recut frame (c .reads) cut) out calls ≡ tally c inline out [] calls
     all-tallied calls =
         let start = accepted-start (done (withReads c cut) inline) out cut-zero in
         rw (read-cut, start .0, start .1) (tallied c inline out cut zero-number (frame-done frame c inline b read .allowed .rising) (k .cuts) (k .few) calls)

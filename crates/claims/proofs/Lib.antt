@@ -14,3 +14,6 @@ pub mod Cutting
 pub mod Tallied
 pub mod Recut
 pub mod Demand3
+pub mod Apart
+pub mod Woven
+pub mod Message
