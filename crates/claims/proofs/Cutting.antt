@@ -1,18 +1,18 @@
 -- Cutting changes nothing: a cut has the chunks of the list that was cut, and so all that is built on them.
 -- Assumes nothing.
-use mathlib.Core.Path.{_≡_, refl, sym, ap, _∙_}
-use mathlib.Core.Bool.{Bool, true, false, cond, _&&_, _||_}
-use mathlib.Core.List.{List, [], _∷_, _++_}
-use Prim.Native.Nat.{ℕ, _+_, _≤_, _%_}
+use mathlib.Core.Path.{_≡_, refl, sym}
+use mathlib.Core.Bool.{Bool, true, false, cond, _||_}
+use mathlib.Core.List.{List}
+use Prim.Native.Nat.{ℕ, _+_}
 use native.Mathlib.Nat.{le-refl, add-assoc}
 use native.Mathlib.Omega.{arith}
-use lib.ListN.{length, take, drop, length-append}
-use lib.Dec.{leb, eqb}
-use borrow.Author.Tests.{leb-true, le-leb, eq-eqb}
+use lib.ListN.{length}
+use lib.Dec.{eqb}
+use borrow.Author.Tests.{le-leb}
 use Rattle.wire.specs.declared.ReadSegment.{ReadSegment}
 use Rattle.lists.specs.Lists.{positionsNumber}
 use Rattle.lists.proofs.Positions.{rises}
-use Rattle.layout.specs.Layout.{anyAtZero, zeroLength, otherChunks, joinChunk, baseLength}
+use Rattle.layout.specs.Layout.{anyAtZero, zeroLength, otherChunks, joinChunk}
 use Rattle.layout.proofs.Joins.{join-join}
 use Rattle.claims.specs.Tally.{Cut, none, last, more}
 

@@ -3,8 +3,7 @@
 use mathlib.Core.Path.{_≡_, refl, sym, ap, _∙_}
 use mathlib.Core.Bool.{Bool, true, false, cond}
 use mathlib.Core.List.{List, [], _∷_, _++_, append-assoc, append-nil}
-use Prim.Native.Nat.{ℕ, _+_, _≤_}
-use native.Mathlib.Omega.{arith}
+use Prim.Native.Nat.{ℕ, _+_}
 use borrow.Author.Tests.{eqb-true}
 use lib.ListN.{length}
 use lib.Dec.{eqb}
@@ -17,7 +16,7 @@ use Rattle.assembly.specs.Assembly.{baseOf, startNumber, startState, noState, s
 use Rattle.assembly.specs.declared.StartAnswer.{StartAnswer}
 use Rattle.assembly.proofs.Starting.{place-passed}
 use Rattle.claims.specs.RoundTrip.{AllBytes}
-use Rattle.claims.specs.Tally.{Call, piece, asking, Outcome, Ending, played, wanted, tallyBuffer, hasRoom, isFull, tallyMessage, grown, tally, recut, withReads, replayed, takenBytes, lastOf, thenAsk, Alike, CutOf, Unchanged}
+use Rattle.claims.specs.Tally.{Call, piece, asking, Outcome, tallyBuffer, hasRoom, isFull, tallyMessage, grown, tally, recut, withReads, replayed, takenBytes, lastOf, thenAsk, CutOf, Unchanged}
 use Rattle.claims.proofs.FrameRead.{frame-done}
 use Rattle.claims.proofs.Recut.{cut-read}
 use Rattle.claims.proofs.Tallied.{cut-accepted, tallied}
@@ -121,7 +120,7 @@ module _ (frame out : List ℕ) (c : Content) (inline : List ℕ) (b : AllBytes 
     accepted = let start = accepted-start (done (withReads c cut) inline) out (cut-zero cut k) in rw (read-cut cut k, start .0);
     tallied = all-tallied cut k;
     compared = λ other l calls others. rw (all-tallied cut k (thenAsk calls), all-tallied other l (thenAsk others)) (λ e.
-      let x = settled c inline out _ calls refl in
-      let y = settled c inline out _ others e in
-      record { same-count = x .count ∙ sym (y .count); same-buffer = x .buffer ∙ sym (y .buffer); same-answer = λ o. x .answer o ∙ sym (y .answer o) });
+        let x = settled c inline out _ calls refl in
+        let y = settled c inline out _ others e in
+        record { same-count = x .count ∙ sym (y .count); same-buffer = x .buffer ∙ sym (y .buffer); same-answer = λ o. x .answer o ∙ sym (y .answer o) });
   }

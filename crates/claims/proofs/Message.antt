@@ -1,26 +1,25 @@
 -- Demand 2: once all bytes are in, the buffer holds the message, and behind it what it held before.
 -- Assumes nothing.
 use mathlib.Core.Path.{_≡_, refl, sym, ap, _∙_}
-use mathlib.Core.Bool.{Bool, true, cond}
+use mathlib.Core.Bool.{Bool, true}
 use mathlib.Core.List.{List, [], _∷_, _++_}
 use Prim.Native.Nat.{ℕ, _+_, _-_, _≤_}
 use native.Mathlib.Nat.{le-refl}
 use native.Mathlib.Omega.{arith}
 use lib.ListN.{length, take, drop, replicate, length-append, length-drop, take-append-drop}
 use lib.Seq.{take-at, length-take-le}
-use lib.Dec.{eqb}
 use borrow.Author.Tests.{eq-eqb}
 use Rattle.wire.specs.declared.ReadSegment.{ReadSegment}
-use Rattle.lists.specs.Parsed.{Parsed, done}
+use Rattle.lists.specs.Parsed.{done}
 use Rattle.header.specs.Content.{Content}
 use Rattle.header.specs.Frame.{readFrame}
 use Rattle.header.specs.declared.Kind.{Kind}
 use Rattle.header.specs.declared.Kind.the-variants.{Msg, Nomsg, Error}
 use Rattle.header.proofs.Ends.{nomsg-ends}
 use Rattle.layout.specs.Places.{from, put}
-use Rattle.layout.specs.Layout.{kindFits, anyAtZero, otherChunks, baseLength, roundedUp, roundedTotal, totalLength, stands, places, gaps, paddings, paddingPlaces, basePlaces, messageLength, pulledPlaces, placeNumber}
+use Rattle.layout.specs.Layout.{kindFits, anyAtZero, otherChunks, baseLength, roundedUp, totalLength, stands, places, gaps, paddings, paddingPlaces, basePlaces, messageLength, pulledPlaces}
 use Rattle.layout.specs.declared.Run.{Run}
-use Rattle.layout.proofs.Putting.{length-put, put-none, length-places}
+use Rattle.layout.proofs.Putting.{put-none, length-places}
 use Rattle.layout.proofs.Stood.{rounded-most}
 use Rattle.placing.proofs.Laws.{Placed, all-placed, length-base}
 use Rattle.assembly.specs.Assembly.{baseOf, startNumber, startAnswer, laid}
@@ -43,12 +42,12 @@ apart-gaps-pads a m t [] s = apart-nil _
 apart-gaps-pads a m t (c ∷ cs) s =
     let lu : (c .length) ≤ roundedUp (c .length) = le-up (c .length) in
     apart-left (from a ((c .at) - a)) _ _
-      (apart-right (from a ((c .at) - a)) (from ((c .at) + (c .length)) (roundedUp (c .length) - (c .length))) (places (paddings cs))
-        (apart-by (c .at) _ _ (below-from (c .at) a ((c .at) - a) (omega arith)) (above-from (c .at) ((c .at) + (c .length)) (roundedUp (c .length) - (c .length)) (omega arith)))
-        (apart-by (c .at) _ _ (below-from (c .at) a ((c .at) - a) (omega arith)) (above-pads (c .at) ((c .at) + roundedUp (c .length)) _ cs (omega arith) (s .2))))
-      (apart-right _ (from ((c .at) + (c .length)) (roundedUp (c .length) - (c .length))) (places (paddings cs))
-        (apart-sym _ _ (apart-by ((c .at) + roundedUp (c .length)) _ _ (below-from ((c .at) + roundedUp (c .length)) ((c .at) + (c .length)) (roundedUp (c .length) - (c .length)) (omega arith)) (above-gaps ((c .at) + roundedUp (c .length)) ((c .at) + roundedUp (c .length)) m _ cs (le-refl _) (s .2))))
-        (apart-gaps-pads ((c .at) + roundedUp (c .length)) m _ cs (s .2)))
+    (apart-right (from a ((c .at) - a)) (from ((c .at) + (c .length)) (roundedUp (c .length) - (c .length))) (places (paddings cs))
+    (apart-by (c .at) _ _ (below-from (c .at) a ((c .at) - a) (omega arith)) (above-from (c .at) ((c .at) + (c .length)) (roundedUp (c .length) - (c .length)) (omega arith)))
+    (apart-by (c .at) _ _ (below-from (c .at) a ((c .at) - a) (omega arith)) (above-pads (c .at) ((c .at) + roundedUp (c .length)) _ cs (omega arith) (s .2))))
+    (apart-right _ (from ((c .at) + (c .length)) (roundedUp (c .length) - (c .length))) (places (paddings cs))
+    (apart-sym _ _ (apart-by ((c .at) + roundedUp (c .length)) _ _ (below-from ((c .at) + roundedUp (c .length)) ((c .at) + (c .length)) (roundedUp (c .length) - (c .length)) (omega arith)) (above-gaps ((c .at) + roundedUp (c .length)) ((c .at) + roundedUp (c .length)) m _ cs (le-refl _) (s .2))))
+    (apart-gaps-pads ((c .at) + roundedUp (c .length)) m _ cs (s .2)))
 
 gaps-length : (base : ℕ) (cs : List Run) → stands base 0 0 cs ≡ true → length (places (gaps 0 (messageLength base cs) cs)) ≡ base
 unfolding basePlaces

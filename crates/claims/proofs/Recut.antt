@@ -1,12 +1,12 @@
 -- A frame whose read list was cut is read as what was cut.
 -- Assumes nothing.
-use mathlib.Core.Path.{_≡_, refl, sym, ap, subst, _∙_}
+use mathlib.Core.Path.{_≡_, sym, ap, _∙_}
 use mathlib.Core.Bool.{Bool, true}
 use mathlib.Core.List.{List, _++_, append-assoc}
 use Prim.Native.Nat.{ℕ, _+_, _≤_}
 use native.Mathlib.Omega.{arith}
 use lib.ListN.{length, take, drop, length-append}
-use lib.Seq.{take-at, drop-at, drop-drop}
+use lib.Seq.{take-at, drop-at}
 use Rattle.wire.specs.declared.ReadSegment.{ReadSegment}
 use Rattle.lists.specs.Parsed.{done}
 use Rattle.header.specs.Content.{Content}
@@ -18,7 +18,7 @@ use Rattle.writer.proofs.Laws.{fixed-length}
 use Rattle.layout.specs.Layout.{kindFits}
 use Rattle.claims.specs.RoundTrip.{AllBytes, All, ReadSegmentFits}
 use Rattle.claims.specs.Tally.{Cut, recut, withReads}
-use Rattle.claims.proofs.Allowed.{Allowed, BareIfError, Behind}
+use Rattle.claims.proofs.Allowed.{Allowed, BareIfError}
 use Rattle.claims.proofs.ReadBack.{header-back}
 use Rattle.claims.proofs.FrameRead.{frame-done}
 use Rattle.claims.proofs.Cutting.{rise-cut}

@@ -1,13 +1,13 @@
 -- After an accepted start, a list of calls over any cut gives what the plain tally gives.
 -- Assumes nothing.
 use mathlib.Core.Path.{_≡_, refl, sym, ap, _∙_}
-use mathlib.Core.Bool.{Bool, true, false, cond, _&&_}
+use mathlib.Core.Bool.{Bool, true, false, cond}
 use mathlib.Core.List.{List, [], _∷_, _++_}
 use Prim.Native.Nat.{ℕ, _+_, _≤_}
 use native.Mathlib.Omega.{arith}
-use lib.ListN.{length, take, drop, length-append}
+use lib.ListN.{length, drop, length-append}
 use lib.Seq.{take-append-seam}
-use lib.Dec.{leb, eqb}
+use lib.Dec.{eqb}
 use borrow.Author.Tests.{leb-true, le-leb, eq-eqb}
 use Rattle.wire.specs.declared.ReadSegment.{ReadSegment}
 use Rattle.lists.specs.Lists.{positionsNumber}
@@ -16,11 +16,11 @@ use Rattle.header.specs.Content.{Content, readListOf}
 use Rattle.header.specs.declared.Kind.{Kind}
 use Rattle.header.specs.declared.Kind.the-variants.{Msg, Nomsg, Error}
 use Rattle.layout.specs.Places.{put}
-use Rattle.layout.specs.Layout.{anyAtZero, otherChunks, baseLength, messageLength, placeNumber, pulledPlaces}
+use Rattle.layout.specs.Layout.{otherChunks, baseLength, pulledPlaces}
 use Rattle.layout.proofs.Putting.{length-put, put-none, put-append}
 use Rattle.assembly.specs.Assembly.{baseOf, startNumber, startState, laid, startedInto, readsOf, chunksOf, pulledOf, canArise, fitsState, takeNumber, tookMore, takeAnswer, takenInto, askNumber, askPart}
 use Rattle.assembly.specs.declared.State.{State}
-use Rattle.claims.specs.Tally.{Call, piece, asking, Ending, answered, played, wanted, tallyBuffer, hasRoom, isFull, tallyMessage, grown, tally, Cut, withReads}
+use Rattle.claims.specs.Tally.{Call, piece, asking, played, wanted, tallyBuffer, hasRoom, isFull, tallyMessage, grown, tally, Cut, withReads}
 use Rattle.claims.proofs.Cutting.{others-cut, any-cut, zero-cut, rise-cut}
 
 -- The base length does not depend on the cut, and for a state it is the one it holds.

@@ -1,6 +1,6 @@
 -- What a buffer holds once all bytes of a message are in: the message, and what stood behind it.
 -- Assumes nothing.
-use mathlib.Core.Path.{_≡_, refl, sym, ap, _∙_}
+use mathlib.Core.Path.{_≡_, sym, ap, _∙_}
 use mathlib.Core.List.{List, [], _∷_, _++_, append-assoc, append-nil}
 use Prim.Native.Nat.{ℕ, _+_, _-_, _≤_}
 use native.Mathlib.Omega.{arith}
@@ -14,7 +14,7 @@ use Rattle.layout.proofs.Putting.{put-from, length-from, from-add, length-put}
 use Rattle.layout.proofs.Stood.{rounded-most}
 use Rattle.placing.proofs.Laws.{Placed}
 use Rattle.claims.specs.Message.{messageFrom}
-use Rattle.claims.proofs.Apart.{Apart, Below, Above, put-comm, apart-by, above-append, above-from, below-from, put-join}
+use Rattle.claims.proofs.Apart.{Apart, Above, put-comm, apart-by, above-append, above-from, below-from, put-join}
 
 le-up : (l : ℕ) → l ≤ roundedUp l
 le-up l = rounded-most l .0
@@ -66,20 +66,23 @@ woven-step : (a p l u m : ℕ) (G C P b1 b2 d1 d2 z1 z2 w b : List ℕ) → a �
     put (from p l ++ C) (d1 ++ d2) (put (from (p + l) (u - l) ++ P) (z1 ++ z2) (put (from a (p - a) ++ G) (b1 ++ b2) b)) ≡ take a b ++ (b1 ++ d1 ++ z1 ++ w) ++ drop m b
 woven-step a p l u m G C P b1 b2 d1 d2 z1 z2 w b le hb hd hz lu pm mb aG aP ih =
     shuffle (from a (p - a)) G (from p l) C (from (p + l) (u - l)) P b1 b2 d1 d2 z1 z2 b
-      (rw length-from hb) (rw length-from hd) (rw length-from hz)
-      (apart-by (p + u) _ G (below-from (p + u) (p + l) (u - l) (omega arith)) aG)
-      (apart-by (p + u) _ P (below-from (p + u) p l (omega arith)) aP)
-      (apart-by (p + u) _ G (below-from (p + u) p l (omega arith)) aG)
-      (apart-by (p + l) _ _ (below-from (p + l) p l (omega arith)) (above-from (p + l) (p + l) (u - l) (omega arith)))
+    (rw length-from hb) (rw length-from hd) (rw length-from hz)
+    (apart-by (p + u) _ G (below-from (p + u) (p + l) (u - l) (omega arith)) aG)
+    (apart-by (p + u) _ P (below-from (p + u) p l (omega arith)) aP)
+    (apart-by (p + u) _ G (below-from (p + u) p l (omega arith)) aG)
+    (apart-by (p + l) _ _ (below-from (p + l) p l (omega arith)) (above-from (p + l) (p + l) (u - l) (omega arith)))
     ∙ ih _ (length-put _ _ b)
     ∙ rw (front, take-front a (p + u) x b (omega arith) ends, drop-front a (p + u) m x b (omega arith) ends pm) (simp append-assoc)
   where
     x : List ℕ
     x = b1 ++ d1 ++ z1
+
     lx : length x ≡ (p - a) + l + (u - l)
     lx = simp length-append (omega arith)
+
     ends : a + length x ≡ p + u
     ends = omega (arith, lx)
+
     front : put (from a (p - a) ++ from p l ++ from (p + l) (u - l)) x b ≡ take a b ++ x ++ drop (p + u) b
     front = rw (runs-touch a (p - a) p l (u - l) (omega arith), ← lx, ← ends) (put-run a x b (omega (arith, ends)))
 
@@ -94,9 +97,9 @@ woven a m t [] base d b s hb hm hl hd =
 woven a m t (c ∷ cs) base d b s hb hm hl hd =
     let lu : (c .length) ≤ roundedUp (c .length) = le-up (c .length) in
     let step = woven-step a (c .at) (c .length) (roundedUp (c .length)) m (places (gaps ((c .at) + roundedUp (c .length)) m cs)) (places cs) (places (paddings cs))
-        (take ((c .at) - a) base) (drop ((c .at) - a) base) (take (c .length) d) (drop (c .length) d) (replicate (roundedUp (c .length) - (c .length)) 0) (replicate (length (places (paddings cs))) 0)
-        (messageFrom ((c .at) + roundedUp (c .length)) (drop ((c .at) - a) base) cs (drop (c .length) d)) b
-        (s .0) (length-take-le ((c .at) - a) base (omega arith)) (length-take-le (c .length) d (omega arith)) (length-replicate (roundedUp (c .length) - (c .length)) 0) lu (omega arith) hl
-        (above-gaps ((c .at) + roundedUp (c .length)) ((c .at) + roundedUp (c .length)) m _ cs (omega arith) (s .2)) (above-pads ((c .at) + roundedUp (c .length)) ((c .at) + roundedUp (c .length)) _ cs (omega arith) (s .2))
-        (λ q e. woven ((c .at) + roundedUp (c .length)) m (t + roundedUp (c .length)) cs (drop ((c .at) - a) base) (drop (c .length) d) q (s .2) (rw length-drop (omega arith)) (omega arith) (omega arith) (rw length-drop (omega arith))) in
+    (take ((c .at) - a) base) (drop ((c .at) - a) base) (take (c .length) d) (drop (c .length) d) (replicate (roundedUp (c .length) - (c .length)) 0) (replicate (length (places (paddings cs))) 0)
+    (messageFrom ((c .at) + roundedUp (c .length)) (drop ((c .at) - a) base) cs (drop (c .length) d)) b
+    (s .0) (length-take-le ((c .at) - a) base (omega arith)) (length-take-le (c .length) d (omega arith)) (length-replicate (roundedUp (c .length) - (c .length)) 0) lu (omega arith) hl
+    (above-gaps ((c .at) + roundedUp (c .length)) ((c .at) + roundedUp (c .length)) m _ cs (omega arith) (s .2)) (above-pads ((c .at) + roundedUp (c .length)) ((c .at) + roundedUp (c .length)) _ cs (omega arith) (s .2))
+    (λ q e. woven ((c .at) + roundedUp (c .length)) m (t + roundedUp (c .length)) cs (drop ((c .at) - a) base) (drop (c .length) d) q (s .2) (rw length-drop (omega arith)) (omega arith) (omega arith) (rw length-drop (omega arith))) in
     rw (length-append, length-from, ← replicate-append-replicate) (rw (take-append-drop (c .length) d, take-append-drop ((c .at) - a) base) at step)
