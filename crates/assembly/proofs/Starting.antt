@@ -5,7 +5,7 @@ use mathlib.Core.Bool.{Bool, true, false, cond}
 use mathlib.Core.List.{List, []}
 use Prim.Native.Nat.{ℕ, _+_, _-_, _%_, _≤_}
 use native.Mathlib.Omega.{arith}
-use borrow.Author.Tests.{leb-true, eqb-true, ne-eqb}
+use borrow.Author.Tests.{leb-true, eqb-true, eqb-false, ne-eqb}
 use lib.ListN.{length, take, drop, replicate, length-drop}
 use lib.Seq.{take-append-seam}
 use lib.Dec.{leb, eqb}
@@ -48,6 +48,18 @@ measured-number kind base c room = by (placeNumber kind (c .«any_zero») base (
     by : (n : ℕ) → cond {A = Measured} (eqb n 0) (record { number = 0; message = messageLength base (found c) }) (record { number = n; message = 0 }) .number ≡ n
     by n = zero-or (messageLength base (found c)) n (eqb n 0) refl
 
+message-or : (message n : ℕ) (b : Bool) → eqb n 0 ≡ b → cond {A = Measured} b (record { number = 0; message = message }) (record { number = n; message = 0 }) .number ≡ 0 →
+    cond {A = Measured} b (record { number = 0; message = message }) (record { number = n; message = 0 }) .message ≡ message
+message-or message n true e z = refl
+message-or message n false e z = absurd (eqb-false n 0 e z)
+
+-- With the number 0 it gives the length of the message.
+pub measured-message : (kind : Kind) (base : ℕ) (c : Chunks) (room : ℕ) (m : Measured) → m ≡ measuredOf kind base c room → m .number ≡ 0 → m .message ≡ messageLength base (found c)
+unfolding measuredOf
+measured-message kind base c room m e z =
+    let n = placeNumber kind (c .«any_zero») base (found c) room in
+    ap (λ (x : Measured). x .message) e ∙ message-or (messageLength base (found c)) n (eqb n 0) refl (sym (ap (λ (x : Measured). x .number) e) ∙ z)
+
 -- What a number 0 says of the chunks.
 pub record Passed (kind : Kind) (atZero : Bool) (base : ℕ) (cs : List Run) (room : ℕ) : Type 0 where
   pub fits : kindFits kind atZero ≡ true
@@ -66,7 +78,7 @@ place-passed kind atZero base cs room e =
     record { fits = a .0; stand = d .0; long = leb-true _ _ (f .0); holds = leb-true _ _ (g .0) }
 
 -- The base length is that of the definition.
-base-same : (kind : Kind) (inline bytes : ℕ) (reads : List ReadSegment) → bytes ≡ zeroLength reads → judgedBase kind inline bytes ≡ baseLength kind inline reads
+pub base-same : (kind : Kind) (inline bytes : ℕ) (reads : List ReadSegment) → bytes ≡ zeroLength reads → judgedBase kind inline bytes ≡ baseLength kind inline reads
 base-same Msg inline bytes reads e = refl
 base-same Nomsg inline bytes reads e = e
 base-same (Error x) inline bytes reads e = refl

@@ -1,5 +1,13 @@
--- What the functions under the start answer. Only internal contracts cite these.
-use Prim.Native.Nat.{ℕ}
+-- What the functions under the reassembly answer. Only internal contracts cite these.
+use Prim.Native.Nat.{ℕ, _+_, _≤_}
+use mathlib.Core.Path.{_≡_}
+use mathlib.Core.Bool.{Bool, true, false}
+use lib.ListN.{length, take}
+use Rattle.layout.specs.Layout.{messageLength}
+use Rattle.placing.specs.Sources.{Laid, sourcePlaces}
+use Rattle.assembly.specs.Assembly.{chunksOf, pulledOf, fitsState}
+use Rattle.assembly.specs.declared.State.{State}
+use Rattle.assembly.specs.declared.Judged.{Judged}
 use Rattle.header.specs.declared.Kind.{Kind}
 use Rattle.header.specs.declared.Kind.the-variants.{Msg, Nomsg, Error}
 
@@ -8,3 +16,29 @@ abbrev pub judgedBase : Kind → ℕ → ℕ → ℕ
 judgedBase Msg inline bytes = inline
 judgedBase Nomsg inline bytes = bytes
 judgedBase (Error e) inline bytes = inline
+
+abbrev pub isNomsg : Kind → Bool
+isNomsg Msg = false
+isNomsg Nomsg = true
+isNomsg (Error e) = false
+
+-- How many bytes are to be pulled.
+abbrev pub pulledLength : Kind → ℕ → ℕ → ℕ
+pulledLength Msg base chunks = chunks
+pulledLength Nomsg base chunks = base + chunks
+pulledLength (Error e) base chunks = chunks
+
+-- What is known of a state that fits.
+pub record Known (s : State) (room : ℕ) (r : Judged) : Type 0 where
+  pub count : r .count ≤ 16
+  pub runs : take (r .count) (r .runs) ≡ chunksOf s
+  pub laid : Laid (s .base) (chunksOf s)
+  pub message : r .message ≡ messageLength (s .base) (chunksOf s)
+  pub holds : messageLength (s .base) (chunksOf s) ≤ room
+  pub places : pulledOf s ≡ sourcePlaces (isNomsg (s .kind)) (s .base) (chunksOf s)
+  pub pulled : r .pulled ≡ length (pulledOf s)
+  pub taken : s .taken ≤ length (pulledOf s)
+
+pub record Judges (s : State) (room : ℕ) (r : Judged) : Type 0 where
+  pub fits : r .fits ≡ fitsState s room
+  pub known : r .fits ≡ true → Known s room r

@@ -1,20 +1,29 @@
-// The start of the reassembly of a call from its inline bytes and pulled read chunks. Not public yet: pieces and asking, which
-// make use of what a start leaves, are to come.
+// The reassembly of a call from its inline bytes and pulled read chunks. Public: State, StartAnswer, PieceAnswer, start,
+// take_piece, ask, message.
 use header::FrameWalk;
 use header::Kind;
 use layout::Chunks;
+use layout::Run;
 use lists::ReadList;
 use wire::ReadSegment;
 use wire::Segment;
 ghost use mathlib.Core.Path.{_≡_};
 ghost use Prim.Native.Nat.{_+_, _≤_};
-ghost use lib.ListN.{length, drop};
+ghost use mathlib.Core.Bool.{true, false};
+ghost use lib.ListN.{length, drop, replicate};
 ghost use Rattle.header.specs.Frame.{readFrame};
-ghost use Rattle.layout.specs.Layout.{messageLength};
+ghost use Rattle.layout.specs.Layout.{run, messageLength};
 ghost use Rattle.layout.specs.Walks.{found};
 ghost use Rattle.placing.specs.Sources.{Laid};
-ghost use Rattle.assembly.specs.Assembly.{noState, laid, startAnswer, startInto};
-ghost use Rattle.assembly.specs.Judged.{judgedBase};
+ghost use Rattle.assembly.specs.Assembly.{noState, laid, startAnswer, startInto, takeAnswer, takenInto, askNumber, askPart};
+ghost use Rattle.assembly.specs.Judged.{judgedBase, isNomsg, pulledLength, Judges};
+
+// "state not one that can arise, or another buffer length than at the start"
+pub const STATE_UNFIT: u32 = 17;
+// "piece longer than what is still to be pulled"
+pub const PIECE_LONG: u32 = 18;
+// "message asked for before all bytes are in"
+pub const BYTES_MISSING: u32 = 19;
 
 // What is handed on from call to call.
 pub struct State {
@@ -31,6 +40,20 @@ pub struct State {
 pub struct StartAnswer {
     pub state: State,
     pub number: u32,
+}
+
+pub struct PieceAnswer {
+    pub state: State,
+    pub number: u32,
+}
+
+// What the checks of a state find.
+pub struct Judged {
+    pub runs: [Run; 16],
+    pub count: usize,
+    pub message: usize,
+    pub pulled: usize,
+    pub fits: bool,
 }
 
 // The base length of a frame: that of its inline bytes, or of its position-zero chunk.
@@ -117,4 +140,144 @@ pub fn start(frame: &[u8], out: &mut [u8]) -> StartAnswer
         },
         number: 0,
     }
+}
+
+fn is_nomsg(kind: Kind) -> bool
+    ensures { λ r. ⌜ r ≡ isNomsg kind ⌝ }
+{
+    match kind {
+        Kind::Msg => false,
+        Kind::Nomsg => true,
+        Kind::Error(_) => false,
+    }
+}
+
+// How many bytes are to be pulled, from those of the base and of the chunks.
+fn pulled_length(kind: Kind, base: usize, chunks: usize) -> usize
+    requires { ⌜ (base ≤ 1048576) × (chunks ≤ 68719476736) ⌝ }
+    ensures { λ r. ⌜ r ≡ pulledLength kind base chunks ⌝ }
+{
+    match kind {
+        Kind::Msg => chunks,
+        Kind::Nomsg => base + chunks,
+        Kind::Error(_) => chunks,
+    }
+}
+
+// A state that does not fit.
+fn unfit() -> Judged
+    ensures { λ r. ⌜ r ≡ record { runs = replicate 16 (run 0 0); count = 0; message = 0; pulled = 0; fits = false } ⌝ }
+{
+    let z = Run { at: 0, length: 0 };
+    Judged {
+        runs: [z; 16],
+        count: 0,
+        message: 0,
+        pulled: 0,
+        fits: false,
+    }
+}
+
+// Checks a state against a buffer of `room` bytes.
+fn judge(s: State, room: usize) -> Judged
+    ensures { λ r. ⌜ Judges s room r ⌝ }
+{
+    let reads = s.reads;
+    let segments = reads.segments;
+    let kind = s.kind;
+    if 16 < reads.count {
+        return unfit();
+    }
+    let n = reads.count as usize;
+    if lists::positions_number(segments, n) != 0 {
+        return unfit();
+    }
+    if s.buffer != room {
+        return unfit();
+    }
+    let c = layout::chunks_of(segments, n);
+    let base = s.base;
+    let measured = layout::measure(kind, base, c, room);
+    if measured.number != 0 {
+        return unfit();
+    }
+    if base_length(kind, base, c.zero_length) != base {
+        return unfit();
+    }
+    let runs = c.runs;
+    let pulled = pulled_length(kind, base, layout::total_length(runs, c.count));
+    if pulled < s.taken {
+        return unfit();
+    }
+    Judged {
+        runs,
+        count: c.count,
+        message: measured.message,
+        pulled,
+        fits: true,
+    }
+}
+
+// Takes a piece of the pulled bytes, which come in list order.
+pub fn take_piece(s: State, piece: &[u8], out: &mut [u8]) -> PieceAnswer
+    ensures answer { λ r. ⌜ r ≡ takeAnswer s (length (now (out .entry))) (length (now (piece .entry))) ⌝ }
+    ensures buffer { λ _. ⌜ now (out .exit) ≡ takenInto s (now (piece .entry)) (now (out .entry)) ⌝ }
+{
+    let j = judge(s, out.len());
+    if !j.fits {
+        return PieceAnswer {
+            state: s,
+            number: STATE_UNFIT,
+        };
+    }
+    let size = piece.len();
+    if j.pulled - s.taken < size {
+        return PieceAnswer {
+            state: s,
+            number: PIECE_LONG,
+        };
+    }
+    let runs = j.runs;
+    let kind = s.kind;
+    let reads = s.reads;
+    placing::place(out, piece, runs, j.count, s.base, is_nomsg(kind), s.taken);
+    PieceAnswer {
+        state: State {
+            reads,
+            kind,
+            base: s.base,
+            buffer: s.buffer,
+            taken: s.taken + size,
+        },
+        number: 0,
+    }
+}
+
+// Asks whether all bytes are in.
+pub fn ask(s: State, out: &[u8]) -> u32
+    ensures { λ r. ⌜ r ≡ askNumber s (length (now (out .entry))) ⌝ }
+{
+    let j = judge(s, out.len());
+    if !j.fits {
+        return STATE_UNFIT;
+    }
+    if s.taken != j.pulled {
+        return BYTES_MISSING;
+    }
+    0
+}
+
+// The message, once all bytes are in: the first part of the buffer.
+pub fn message(s: State, out: &[u8]) -> &[u8]
+    ensures { λ r. ⌜ now r ≡ askPart s (now (out .entry)) ⌝ }
+{
+    let j = judge(s, out.len());
+    if !j.fits {
+        return &out[0..0];
+    }
+    if s.taken != j.pulled {
+        return &out[0..0];
+    }
+    let end = j.message;
+    &out[0..end]
 }

@@ -10,10 +10,14 @@ use Rattle.writer.specs.Bytes.{headerBytes, fixedBytes, readListBytes, writeLis
 use Rattle.writer.specs.Write.{writeAnswer, writtenInto, writeNumber, withinLimits, total}
 use Rattle.setup.specs.Setup.{isSetup, readSetup}
 use Rattle.reply.specs.Reply.{granted, grantAnswer, replyKindOf, replyKindFor, errorReply, errorReplyNumber, errorReplyAnswer, errorReplyInto}
+use Rattle.layout.specs.Places.{from, put}
+use Rattle.layout.specs.Layout.{anyAtZero, zeroLength, joinChunk, otherChunks, roundedUp, roundedTotal, stands, placeNumber, places, gaps, paddings, paddingPlaces, basePlaces, pulledPlaces}
+use Rattle.assembly.specs.Assembly.{startNumber, startAnswer, startInto, laid, canArise, takeNumber, takeAnswer, takenInto, askNumber, askPart}
+use Rattle.claims.specs.Tally.{played}
 use Rattle.claims.specs.RoundTrip.{All}
-use Rattle.claims.specs.Examples.{Holds, examples}
+use Rattle.claims.specs.Examples.{Holds, entryWords, examples}
 
 -- "C1 to C13 are proved from the definitions as one list with one claim over it."
 pub worked : All Holds examples
-unfolding All words joined wordBytes readFrame byProcedure threeParts readList readEntry segments counted each writeList replyChunk markerOf wordOf wordAt segmentAt readSegmentAt writeAnswer writtenInto writeNumber withinLimits total positionsNumber headerOf contentOf runs headerBytes fixedBytes readListBytes writeListBytes replyBytes chunkBytes countedBytes entryBytes segmentBytes readSegmentBytes isSetup readSetup granted grantAnswer replyKindOf replyKindFor errorReply errorReplyNumber errorReplyAnswer errorReplyInto
-worked = ((refl, refl), ((refl, refl), ((refl, refl), ((refl, refl), ((refl, refl), ((refl, refl), (refl, (refl, (refl, (refl, ((refl, refl), tt)))))))))))
+unfolding All words joined wordBytes readFrame byProcedure threeParts readList readEntry segments counted each writeList replyChunk markerOf wordOf wordAt segmentAt readSegmentAt writeAnswer writtenInto writeNumber withinLimits total positionsNumber headerOf contentOf runs headerBytes fixedBytes readListBytes writeListBytes replyBytes chunkBytes countedBytes entryBytes segmentBytes readSegmentBytes isSetup readSetup granted grantAnswer replyKindOf replyKindFor errorReply errorReplyNumber errorReplyAnswer errorReplyInto entryWords startNumber startAnswer startInto laid canArise takeNumber takeAnswer takenInto askNumber askPart played anyAtZero zeroLength joinChunk otherChunks roundedUp roundedTotal stands placeNumber places gaps paddings paddingPlaces basePlaces pulledPlaces from put
+worked = ((refl, refl), ((refl, refl), ((refl, refl), ((refl, refl), ((refl, refl), ((refl, refl), ((refl, refl), ((refl, refl), (refl, (refl, (refl, (refl, (refl, ((refl, refl), ((refl, refl), (refl, (refl, (refl, (refl, ((refl, refl), tt))))))))))))))))))))

@@ -10,3 +10,10 @@ pub mod RoundTrip
 pub mod Examples
 pub mod Setup
 pub mod Replies
+pub mod Cutting
+pub mod Tallied
+pub mod Recut
+pub mod Demand3
+pub mod Apart
+pub mod Woven
+pub mod Message

@@ -1,7 +1,7 @@
 -- "Frames and messages worked through" (document 01): each example as one entry of one list.
 use Prim.Native.Nat.{ℕ}
 use mathlib.Core.Path.{_≡_}
-use mathlib.Core.List.{List, [], _∷_}
+use mathlib.Core.List.{List, [], _∷_, _++_}
 use mathlib.Core.Bool.{true, false}
 use lib.ListN.{length, take, replicate}
 use Rattle.wire.specs.Wire.{words}
@@ -10,6 +10,8 @@ use Rattle.header.specs.Content.{headerOf}
 use Rattle.header.specs.declared.Header.{Header}
 use Rattle.header.specs.declared.Kind.the-variants.{Msg}
 use Rattle.writer.specs.Write.{writeAnswer, writtenInto}
+use Rattle.assembly.specs.Assembly.{startAnswer}
+use Rattle.claims.specs.Tally.{Call, piece, asking, Outcome, replayed}
 use Rattle.setup.specs.Setup.{readSetup, noSetup}
 use Rattle.setup.specs.declared.SetupAnswer.{SetupAnswer}
 use Rattle.reply.specs.Reply.{grantAnswer, errorReplyAnswer, errorReplyInto}
@@ -23,6 +25,10 @@ pub data Example : Type 0 where
   header-takes : Header → ℕ → Example
   -- the error reply to a frame with an answer number and a limit, written into as many bytes, is these
   replied : List ℕ → ℕ → ℕ → List ℕ → Example
+  -- a start over a frame and a buffer of so many bytes gives a number
+  starts : List ℕ → ℕ → ℕ → Example
+  -- it is accepted, and these calls then give these answers
+  assembles : List ℕ → ℕ → List Call → List Outcome → Example
   -- reading setup data gives this
   setup-reads : List ℕ → SetupAnswer → Example
   -- what is granted to one who asks, with a limit
@@ -36,6 +42,9 @@ Holds (header-takes h size) =
 Holds (replied frame number limit reply) =
     (errorReplyAnswer frame number limit (length reply) ≡ record { number = 0; length = length reply })
     × (errorReplyInto frame number limit (replicate (length reply) 0) ≡ reply)
+Holds (starts frame room number) = startAnswer (readFrame frame) room .number ≡ number
+Holds (assembles frame room calls outcomes) =
+    (startAnswer (readFrame frame) room .number ≡ 0) × (replayed frame (replicate room 0xff) calls .outcomes ≡ outcomes)
 Holds (setup-reads bytes answer) = readSetup bytes ≡ answer
 Holds (grants asked limit credit) = grantAnswer asked limit ≡ record { credit = credit; number = 0 }
 
@@ -46,6 +55,27 @@ c2 = words (0x2a ∷ 1 ∷ 0x20 ∷ 0 ∷ 0 ∷ 0 ∷ 0 ∷ [])
 -- "C3 The same with version 2"
 abbrev pub c3 : List ℕ
 c3 = words (0x2a ∷ 2 ∷ 0x20 ∷ 0 ∷ 0 ∷ 0 ∷ 0 ∷ [])
+
+-- A call with a kind's procedure, these read entries of position and length, and these inline bytes.
+unfoldable pub entryWords : List (ℕ × ℕ) → List ℕ
+entryWords [] = 0 ∷ []
+entryWords (e ∷ es) = 1 ∷ e .0 ∷ 7 ∷ e .1 ∷ 0 ∷ 9 ∷ entryWords es
+
+abbrev pub call : ℕ → List (ℕ × ℕ) → List ℕ → List ℕ
+call procedure entries inline = words (0x2a ∷ 1 ∷ 0x20 ∷ procedure ∷ []) ++ words (entryWords entries) ++ words (0 ∷ 0 ∷ []) ++ inline
+
+-- "inline 01 to 0c", "5 bytes a1 to a5" and C6's message.
+abbrev pub twelve : List ℕ
+twelve = 1 ∷ 2 ∷ 3 ∷ 4 ∷ 5 ∷ 6 ∷ 7 ∷ 8 ∷ 9 ∷ 10 ∷ 11 ∷ 12 ∷ []
+
+abbrev pub five : List ℕ
+five = 0xa1 ∷ 0xa2 ∷ 0xa3 ∷ 0xa4 ∷ 0xa5 ∷ []
+
+abbrev pub c6Message : List ℕ
+c6Message = 1 ∷ 2 ∷ 3 ∷ 4 ∷ 5 ∷ 6 ∷ 7 ∷ 8 ∷ 0xa1 ∷ 0xa2 ∷ 0xa3 ∷ 0xa4 ∷ 0xa5 ∷ 0 ∷ 0 ∷ 0 ∷ 9 ∷ 10 ∷ 11 ∷ 12 ∷ []
+
+abbrev pub gives : ℕ → List ℕ → Outcome
+gives number part = record { number = number; part = part }
 
 -- "C10 f6 ab 0e 18 01 01 03 07"
 abbrev pub c10 : List ℕ
@@ -62,15 +92,24 @@ full = headerOf (record {
   reply = some (replicate 16 (record { handle = 1; length = 2; offset = 3 }));
 })
 
--- C1 to C5 and C10 to C13, in the document's order; of C2 what reading gives.
+-- C1 to C13, in the document's order.
 abbrev pub examples : List Example
 examples =
     frame-reads [] 1 []
     ∷ frame-reads c2 0 []
+    ∷ assembles c2 0 (asking ∷ []) (gives 0 [] ∷ [])
     ∷ frame-reads c3 2 []
     ∷ replied c3 2 32 (words (0x2a ∷ 1 ∷ 0x20 ∷ 4 ∷ 1 ∷ 1 ∷ 1 ∷ []))
     ∷ frame-reads (take 27 c2) 5 []
     ∷ frame-reads (words (0x2a ∷ 1 ∷ 0x20 ∷ 0 ∷ 2 ∷ 0 ∷ 0 ∷ [])) 6 []
+    ∷ assembles (call 0 ((8, 5) ∷ []) twelve) 24 (asking ∷ piece (0 ∷ five) ∷ piece five ∷ asking ∷ []) (gives 19 [] ∷ gives 18 [] ∷ gives 0 [] ∷ gives 0 c6Message ∷ [])
+    ∷ starts (call 0 ((8, 5) ∷ (16, 4) ∷ []) twelve) 24 0
+    ∷ starts (call 0 ((8, 5) ∷ (20, 4) ∷ []) twelve) 24 0
+    ∷ starts (call 0 ((8, 5) ∷ (20, 4) ∷ []) twelve) 23 16
+    ∷ starts (call 0 ((8, 5) ∷ (12, 4) ∷ []) twelve) 24 14
+    ∷ starts (call 0 ((8, 5) ∷ (24, 4) ∷ []) twelve) 24 14
+    ∷ assembles (call 1 ((0, 12) ∷ (8, 5) ∷ []) []) 20 (piece twelve ∷ asking ∷ piece five ∷ asking ∷ []) (gives 0 [] ∷ gives 19 [] ∷ gives 0 [] ∷ gives 0 c6Message ∷ [])
+    ∷ assembles (call 0 ((8, 2) ∷ (8, 3) ∷ []) twelve) 20 (piece five ∷ asking ∷ []) (gives 0 [] ∷ gives 0 c6Message ∷ [])
     ∷ setup-reads c10 (record { setup = record { «remote_invalidation» = true; send = record { 0 = 4096 }; receive = record { 0 = 8192 } }; present = true; number = 0 })
     ∷ setup-reads (take 7 c10) (record { setup = noSetup; present = false; number = 0 })
     ∷ grants 0 32 1

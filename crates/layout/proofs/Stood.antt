@@ -107,3 +107,17 @@ overlaps-told base cs e = told-not (stands base 0 0 cs) (roundedTotal cs) e
 
 pub rounded-small : (cs : List Run) → Bounded cs → length cs ≤ 16 → roundedTotal cs ≤ 68719476784
 rounded-small cs b few = omega (arith, total-most cs, b .small)
+
+-- The bytes of one chunk more.
+pub total-drop : (cs : List Run) (i sum : ℕ) → i < length cs → sum + totalLength (drop i cs) ≡ totalLength cs →
+    sum + getD cs i (run 0 0) .length + totalLength (drop (i + 1) cs) ≡ totalLength cs
+unfolding totalLength
+total-drop cs i sum h e =
+    let more : totalLength (drop i cs) ≡ getD cs i (run 0 0) .length + totalLength (drop (i + 1) cs) = rw (drop-cons cs i (run 0 0) h, add-one) in
+    omega arith
+
+pub total-end : (cs : List Run) (i sum : ℕ) → i ≡ length cs → sum + totalLength (drop i cs) ≡ totalLength cs → sum ≡ totalLength cs
+unfolding totalLength
+total-end cs i sum h e =
+    let none : totalLength (drop i cs) ≡ 0 = rw (h, drop-length) in
+    omega arith

@@ -147,6 +147,19 @@ pub fn chunks_of(segments: [ReadSegment; 16], n: usize) -> Chunks
     c
 }
 
+// The bytes of the first n chunks.
+pub fn total_length(runs: [Run; 16], n: usize) -> usize
+    requires { ⌜ (n ≤ 16) × (totalLength (take n runs) ≤ 68719476736) ⌝ }
+    ensures { λ r. ⌜ r ≡ totalLength (take n runs) ⌝ }
+{
+    let mut sum = 0;
+    for i in 0..n {
+        let c = runs[i];
+        sum += c.length;
+    }
+    sum
+}
+
 // Whether each chunk stands behind the former one and within the base.
 fn chunks_stand(runs: [Run; 16], count: usize, base: usize) -> Standing
     requires { ⌜ (count ≤ 16) × Bounded (take count runs) ⌝ }

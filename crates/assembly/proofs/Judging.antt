@@ -1,0 +1,118 @@
+-- What the checks of a state find.
+-- Assumes nothing.
+use mathlib.Core.Path.{_≡_, refl, sym, ap, _∙_}
+use mathlib.Core.Bool.{Bool, true, false, _&&_}
+use mathlib.Core.List.{List}
+use Prim.Native.Nat.{ℕ, _≤_, _<_}
+use native.Mathlib.Omega.{arith}
+use borrow.Author.Tests.{le-leb, lt-leb, eq-eqb, ne-eqb}
+use lib.ListN.{length, replicate}
+use Rattle.lists.specs.Lists.{positionsNumber}
+use Rattle.header.specs.declared.Kind.{Kind}
+use Rattle.header.specs.declared.Kind.the-variants.{Msg, Nomsg, Error}
+use Rattle.layout.specs.Layout.{run, kindFits, anyAtZero, baseLength, stands, totalLength, messageLength, placeNumber, pulledPlaces}
+use Rattle.layout.specs.Walks.{found, ChunksOf}
+use Rattle.layout.specs.declared.Run.{Run}
+use Rattle.layout.specs.declared.Chunks.{Chunks}
+use Rattle.layout.proofs.Putting.{length-places}
+use Rattle.placing.specs.Sources.{sourcePlaces}
+use Rattle.placing.proofs.Laws.{length-based}
+use Rattle.assembly.specs.Assembly.{readsOf, chunksOf, pulledOf, canArise, fitsState}
+use Rattle.assembly.specs.Judged.{judgedBase, isNomsg, pulledLength, Judges}
+use Rattle.assembly.specs.declared.State.{State}
+use Rattle.assembly.specs.declared.Judged.{Judged}
+use Rattle.assembly.proofs.Starting.{place-passed, base-same}
+
+abbrev pub unfitting : Judged
+unfitting = record { runs = replicate 16 (run 0 0); count = 0; message = 0; pulled = 0; fits = false }
+
+pub unfit-judges : (s : State) (room : ℕ) (r : Judged) → r ≡ unfitting → fitsState s room ≡ false → Judges s room r
+unfit-judges s room r e f =
+    record { fits = rw e (sym f); known = λ q. absurd (let z : false ≡ true = sym (ap (λ (x : Judged). x .fits) e) ∙ q in let n : _≡_ {A = ℕ} 0 1 = cc in omega arith) }
+
+and-false : (b : Bool) → (b && false) ≡ false
+and-false true = refl
+and-false false = refl
+
+pulled-places : (kind : Kind) (atZero : Bool) (base : ℕ) (cs : List Run) → kindFits kind atZero ≡ true → pulledPlaces kind base cs ≡ sourcePlaces (isNomsg kind) base cs
+unfolding pulledPlaces
+pulled-places Msg z base cs f = refl
+pulled-places Nomsg z base cs f = refl
+pulled-places (Error e) z base cs f = absurd (let n : _≡_ {A = ℕ} 0 1 = cc in omega arith)
+
+pulled-many : (kind : Kind) (atZero : Bool) (base : ℕ) (cs : List Run) → kindFits kind atZero ≡ true → stands base 0 0 cs ≡ true → pulledLength kind base (totalLength cs) ≡ length (pulledPlaces kind base cs)
+unfolding pulledPlaces
+pulled-many Msg z base cs f e = sym (length-places cs)
+pulled-many Nomsg z base cs f e = sym (length-based base cs e)
+pulled-many (Error x) z base cs f e = absurd (let n : _≡_ {A = ℕ} 0 1 = cc in omega arith)
+
+module _ (s : State) (room : ℕ) where
+  pub too-many : 16 < s .reads .count → fitsState s room ≡ false
+  unfolding canArise
+  too-many h = simp (lt-leb _ _ h)
+
+  pub out-of-order : s .reads .count ≤ 16 → (positionsNumber 0 (readsOf s) 0 ≡ 0 → ⊥) → fitsState s room ≡ false
+  unfolding canArise
+  out-of-order few h = simp (le-leb _ _ few, ne-eqb _ _ h)
+
+  pub other-buffer : (s .buffer ≡ room → ⊥) → fitsState s room ≡ false
+  other-buffer h = simp (ne-eqb _ _ h) (and-false (canArise s))
+
+  module _ (few : s .reads .count ≤ 16) (rise : positionsNumber 0 (readsOf s) 0 ≡ 0) (same : s .buffer ≡ room) (c : Chunks) (k : ChunksOf (readsOf s) c) where
+    number-of : placeNumber (s .kind) (c .«any_zero») (s .base) (found c) room ≡ placeNumber (s .kind) (anyAtZero (readsOf s)) (s .base) (chunksOf s) (s .buffer)
+    number-of = rw (k .any, k .runs, same)
+
+    pub misplaced : (placeNumber (s .kind) (c .«any_zero») (s .base) (found c) room ≡ 0 → ⊥) → fitsState s room ≡ false
+    unfolding canArise
+    misplaced h = simp (le-leb _ _ few, eq-eqb _ _ rise, ne-eqb _ 0 (λ e. h (number-of ∙ e)))
+
+    module _ (placed : placeNumber (s .kind) (c .«any_zero») (s .base) (found c) room ≡ 0) where
+      zero-number : placeNumber (s .kind) (anyAtZero (readsOf s)) (s .base) (chunksOf s) (s .buffer) ≡ 0
+      zero-number = sym number-of ∙ placed
+
+      base-of : judgedBase (s .kind) (s .base) (c .«zero_length») ≡ baseLength (s .kind) (s .base) (readsOf s)
+      base-of = base-same (s .kind) (s .base) (c .«zero_length») (readsOf s) (k .zero)
+
+      pub other-base : (judgedBase (s .kind) (s .base) (c .«zero_length») ≡ s .base → ⊥) → fitsState s room ≡ false
+      unfolding canArise
+      other-base h = simp (le-leb _ _ few, eq-eqb _ _ rise, zero-number, ne-eqb _ _ (λ e. h (base-of ∙ e)))
+
+      pub pulled-of : pulledLength (s .kind) (s .base) (totalLength (found c)) ≡ length (pulledOf s)
+      pulled-of =
+          let p = place-passed (s .kind) (anyAtZero (readsOf s)) (s .base) (chunksOf s) (s .buffer) zero-number in
+          rw (k .runs) (pulled-many (s .kind) (anyAtZero (readsOf s)) (s .base) (chunksOf s) (p .fits) (p .stand))
+
+      pub small-base : s .base ≤ 1048576
+      small-base =
+          let p = place-passed (s .kind) (anyAtZero (readsOf s)) (s .base) (chunksOf s) (s .buffer) zero-number in
+          let long = p .long in
+          omega arith
+
+      module _ (based : judgedBase (s .kind) (s .base) (c .«zero_length») ≡ s .base) where
+        pub over-taken : length (pulledOf s) < s .taken → fitsState s room ≡ false
+        unfolding canArise
+        over-taken h = simp (le-leb _ _ few, eq-eqb _ _ rise, zero-number, eq-eqb _ _ (sym base-of ∙ based), lt-leb _ _ h)
+
+        pub fit : s .taken ≤ length (pulledOf s) → fitsState s room ≡ true
+        unfolding canArise
+        fit h = simp (le-leb _ _ few, eq-eqb _ _ rise, zero-number, eq-eqb _ _ (sym base-of ∙ based), le-leb _ _ h, eq-eqb _ _ same)
+
+        pub fit-judges : (r : Judged) (message : ℕ) → message ≡ messageLength (s .base) (found c) → s .taken ≤ length (pulledOf s) →
+            r ≡ record { runs = c .runs; count = c .count; message = message; pulled = length (pulledOf s); fits = true } → Judges s room r
+        fit-judges r message m h e =
+            let p = place-passed (s .kind) (anyAtZero (readsOf s)) (s .base) (chunksOf s) (s .buffer) zero-number in
+            let holds = p .holds in
+            rw e
+            (record {
+              fits = sym (fit h);
+              known = λ q. record {
+                count = k .count;
+                runs = k .runs;
+                laid = record { bounded = rw (k .runs) at (k .bounded); stand = p .stand; small = small-base };
+                message = rw (k .runs) at m;
+                holds = omega arith;
+                places = pulled-places (s .kind) (anyAtZero (readsOf s)) (s .base) (chunksOf s) (p .fits);
+                pulled = refl;
+                taken = h;
+              };
+            })

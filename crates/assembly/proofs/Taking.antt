@@ -1,0 +1,50 @@
+-- What a piece and an asking answer, from what the checks of the state have found.
+-- Assumes nothing.
+use mathlib.Core.Path.{_≡_, refl, sym}
+use mathlib.Core.Bool.{Bool, true, false}
+use mathlib.Core.List.{List, []}
+use Prim.Native.Nat.{ℕ, _+_, _≤_, _<_}
+use borrow.Author.Tests.{le-leb, lt-leb, eq-eqb, ne-eqb}
+use lib.ListN.{length, take, drop}
+use Rattle.layout.specs.Places.{put}
+use Rattle.layout.specs.Layout.{messageLength}
+use Rattle.placing.specs.Sources.{Laid, sourcePlaces}
+use Rattle.assembly.specs.Assembly.{chunksOf, pulledOf, fitsState, takeNumber, tookMore, takeAnswer, takenInto, askNumber, askPart}
+use Rattle.assembly.specs.Judged.{isNomsg, Known}
+use Rattle.assembly.specs.declared.State.{State}
+use Rattle.assembly.specs.declared.Judged.{Judged}
+
+-- The places that are filled are the pulled ones.
+pub known-places : (s : State) (room : ℕ) (r : Judged) (b : Bool) → Known s room r → b ≡ isNomsg (s .kind) → sourcePlaces b (s .base) (take (r .count) (r .runs)) ≡ pulledOf s
+known-places s room r b k e = rw (e, k .runs) (sym (k .places))
+
+pub known-ready : (s : State) (room size : ℕ) (r : Judged) (b : Bool) → Known s room r → b ≡ isNomsg (s .kind) → s .taken + size ≤ length (pulledOf s) →
+    (r .count ≤ 16) × Laid (s .base) (take (r .count) (r .runs)) × (messageLength (s .base) (take (r .count) (r .runs)) ≤ room) × (s .taken + size ≤ length (sourcePlaces b (s .base) (take (r .count) (r .runs))))
+known-ready s room size r b k e h = (k .count, rw (k .runs) (k .laid), rw (k .runs) (k .holds), rw (known-places s room r b k e) h)
+
+module _ (s : State) (piece out : List ℕ) where
+  pub take-unfit : fitsState s (length out) ≡ false → (record { state = s; number = 17 } ≡ takeAnswer s (length out) (length piece)) × (out ≡ takenInto s piece out)
+  unfolding takeAnswer takenInto takeNumber
+  take-unfit f = simp f (refl, refl)
+
+  pub take-long : fitsState s (length out) ≡ true → length (pulledOf s) < s .taken + length piece → (record { state = s; number = 18 } ≡ takeAnswer s (length out) (length piece)) × (out ≡ takenInto s piece out)
+  unfolding takeAnswer takenInto takeNumber
+  take-long f h = simp (f, lt-leb (s .taken + length piece) (length (pulledOf s)) h) (refl, refl)
+
+  pub take-done : fitsState s (length out) ≡ true → s .taken + length piece ≤ length (pulledOf s) → (after : List ℕ) → after ≡ put (drop (s .taken) (pulledOf s)) piece out →
+      (record { state = tookMore s (length piece); number = 0 } ≡ takeAnswer s (length out) (length piece)) × (after ≡ takenInto s piece out)
+  unfolding takeAnswer takenInto takeNumber
+  take-done f h after e = simp (f, le-leb (s .taken + length piece) (length (pulledOf s)) h) (refl, e)
+
+module _ (s : State) (out : List ℕ) where
+  pub ask-unfit : fitsState s (length out) ≡ false → (17 ≡ askNumber s (length out)) × ([] ≡ askPart s out)
+  unfolding askNumber askPart
+  ask-unfit f = simp f (refl, refl)
+
+  pub ask-early : fitsState s (length out) ≡ true → (s .taken ≡ length (pulledOf s) → ⊥) → (19 ≡ askNumber s (length out)) × ([] ≡ askPart s out)
+  unfolding askNumber askPart
+  ask-early f h = simp (f, ne-eqb _ _ h) (refl, refl)
+
+  pub ask-done : fitsState s (length out) ≡ true → s .taken ≡ length (pulledOf s) → (0 ≡ askNumber s (length out)) × (take (messageLength (s .base) (chunksOf s)) out ≡ askPart s out)
+  unfolding askNumber askPart
+  ask-done f h = simp (f, eq-eqb _ _ h) (refl, refl)
