@@ -20,7 +20,6 @@ use Rattle.layout.specs.Places.{from, put}
 use Rattle.layout.specs.Layout.{kindFits, anyAtZero, otherChunks, baseLength, roundedUp, totalLength, stands, places, gaps, paddings, paddingPlaces, basePlaces, messageLength, pulledPlaces}
 use Rattle.layout.specs.declared.Run.{Run}
 use Rattle.layout.proofs.Putting.{put-none, length-places}
-use Rattle.layout.proofs.Stood.{rounded-most}
 use Rattle.placing.proofs.Laws.{Placed, all-placed, length-base}
 use Rattle.assembly.specs.Assembly.{baseOf, startNumber, startAnswer, laid}
 use Rattle.assembly.proofs.Starting.{Passed, place-passed}
@@ -28,12 +27,9 @@ use Rattle.claims.specs.RoundTrip.{AllBytes}
 use Rattle.claims.specs.Tally.{Call, Outcome, wanted, tallyBuffer, tallyMessage, recut, replayed, takenBytes, lastOf, thenAsk, CutOf}
 use Rattle.claims.specs.Message.{messageFrom, wholeMessage, messageOf}
 use Rattle.claims.proofs.Apart.{Apart, put-comm, apart-by, above-from, below-from, apart-right, apart-left, apart-nil, apart-sym, put-join}
-use Rattle.claims.proofs.Woven.{woven, above-gaps, above-pads}
+use Rattle.claims.proofs.Woven.{le-up, woven, above-gaps, above-pads}
 use Rattle.claims.proofs.Tallied.{length-tally}
 use Rattle.claims.proofs.Demand3.{settled, all-tallied, zero-number}
-
-le-up : (l : ℕ) → l ≤ roundedUp l
-le-up l = rounded-most l .0
 
 -- The base and the padding lie apart.
 apart-gaps-pads : (a m t : ℕ) (cs : List Run) → Placed a t cs → Apart (places (gaps a m cs)) (places (paddings cs))

@@ -16,7 +16,8 @@ use Rattle.placing.proofs.Laws.{Placed}
 use Rattle.claims.specs.Message.{messageFrom}
 use Rattle.claims.proofs.Apart.{Apart, Above, put-comm, apart-by, above-append, above-from, below-from, put-join}
 
-le-up : (l : ℕ) → l ≤ roundedUp l
+-- Rounding never makes less.
+pub le-up : (l : ℕ) → l ≤ roundedUp l
 le-up l = rounded-most l .0
 
 put-run : (k : ℕ) (v out : List ℕ) → k + length v ≤ length out → put (from k (length v)) v out ≡ take k out ++ v ++ drop (k + length v) out
