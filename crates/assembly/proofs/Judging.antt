@@ -3,25 +3,28 @@
 use mathlib.Core.Path.{_≡_, refl, sym, ap, _∙_}
 use mathlib.Core.Bool.{Bool, true, false, _&&_}
 use mathlib.Core.List.{List}
-use Prim.Native.Nat.{ℕ, _≤_, _<_}
+use Prim.Native.Nat.{ℕ, _+_, _≤_, _<_}
 use native.Mathlib.Omega.{arith}
-use borrow.Author.Tests.{le-leb, lt-leb, eq-eqb, ne-eqb}
+use borrow.Author.Tests.{le-leb, lt-leb, eq-eqb, ne-eqb, not-true}
 use lib.ListN.{length, replicate}
+use Rattle.wire.specs.declared.ReadSegment.{ReadSegment}
 use Rattle.lists.specs.Lists.{positionsNumber}
 use Rattle.header.specs.declared.Kind.{Kind}
 use Rattle.header.specs.declared.Kind.the-variants.{Msg, Nomsg, Error}
-use Rattle.layout.specs.Layout.{run, kindFits, anyAtZero, baseLength, stands, totalLength, messageLength, placeNumber, pulledPlaces}
-use Rattle.layout.specs.Walks.{found, ChunksOf}
+use Rattle.layout.specs.Layout.{run, kindFits, anyAtZero, zeroLength, otherChunks, baseLength, stands, totalLength, messageLength, placeNumber, pulledPlaces}
+use Rattle.layout.specs.Walks.{found, measuredOf, ChunksOf}
 use Rattle.layout.specs.declared.Run.{Run}
 use Rattle.layout.specs.declared.Chunks.{Chunks}
+use Rattle.layout.specs.declared.Measured.{Measured}
+use Rattle.layout.proofs.Rising.{none-at-zero}
 use Rattle.layout.proofs.Putting.{length-places}
 use Rattle.placing.specs.Sources.{sourcePlaces}
 use Rattle.placing.proofs.Laws.{length-based}
 use Rattle.assembly.specs.Assembly.{readsOf, chunksOf, pulledOf, canArise, fitsState}
-use Rattle.assembly.specs.Judged.{judgedBase, isNomsg, pulledLength, Judges}
+use Rattle.assembly.specs.Judged.{judgedBase, isNomsg, Judges}
 use Rattle.assembly.specs.declared.State.{State}
 use Rattle.assembly.specs.declared.Judged.{Judged}
-use Rattle.assembly.proofs.Starting.{place-passed, base-same}
+use Rattle.assembly.proofs.Starting.{place-passed, base-same, measured-number}
 
 abbrev pub unfitting : Judged
 unfitting = record { runs = replicate 16 (run 0 0); count = 0; message = 0; pulled = 0; fits = false }
@@ -40,11 +43,15 @@ pulled-places Msg z base cs f = refl
 pulled-places Nomsg z base cs f = refl
 pulled-places (Error e) z base cs f = absurd (let n : _≡_ {A = ℕ} 0 1 = cc in omega arith)
 
-pulled-many : (kind : Kind) (atZero : Bool) (base : ℕ) (cs : List Run) → kindFits kind atZero ≡ true → stands base 0 0 cs ≡ true → pulledLength kind base (totalLength cs) ≡ length (pulledPlaces kind base cs)
+-- All bytes of a read list are to be pulled.
+pulled-all : (kind : Kind) (base : ℕ) (reads : List ReadSegment) → kindFits kind (anyAtZero reads) ≡ true → stands base 0 0 (otherChunks reads) ≡ true → baseLength kind base reads ≡ base →
+    totalLength (otherChunks reads) + zeroLength reads ≡ length (pulledPlaces kind base (otherChunks reads))
 unfolding pulledPlaces
-pulled-many Msg z base cs f e = sym (length-places cs)
-pulled-many Nomsg z base cs f e = sym (length-based base cs e)
-pulled-many (Error x) z base cs f e = absurd (let n : _≡_ {A = ℕ} 0 1 = cc in omega arith)
+pulled-all Msg base reads f e b =
+    let none = none-at-zero reads (not-true (anyAtZero reads) f) in
+    rw (length-places (otherChunks reads)) (omega arith)
+pulled-all Nomsg base reads f e b = rw (length-based base (otherChunks reads) e) (omega arith)
+pulled-all (Error x) base reads f e b = absurd (let n : _≡_ {A = ℕ} 0 1 = cc in omega arith)
 
 module _ (s : State) (room : ℕ) where
   pub too-many : 16 < s .reads .count → fitsState s room ≡ false
@@ -62,9 +69,14 @@ module _ (s : State) (room : ℕ) where
     number-of : placeNumber (s .kind) (c .«any_zero») (s .base) (found c) room ≡ placeNumber (s .kind) (anyAtZero (readsOf s)) (s .base) (chunksOf s) (s .buffer)
     number-of = rw (k .any, k .runs, same)
 
-    pub misplaced : (placeNumber (s .kind) (c .«any_zero») (s .base) (found c) room ≡ 0 → ⊥) → fitsState s room ≡ false
+    pub misplaced : (m : Measured) → m ≡ measuredOf (s .kind) (s .base) c room → (m .number ≡ 0 → ⊥) → fitsState s room ≡ false
     unfolding canArise
-    misplaced h = simp (le-leb _ _ few, eq-eqb _ _ rise, ne-eqb _ 0 (λ e. h (number-of ∙ e)))
+    misplaced m is h =
+        let number = ap (λ (x : Measured). x .number) is ∙ measured-number (s .kind) (s .base) c room in
+        simp (le-leb _ _ few, eq-eqb _ _ rise, ne-eqb _ 0 (λ e. h (number ∙ number-of ∙ e)))
+
+    pub placed-of : (m : Measured) → m ≡ measuredOf (s .kind) (s .base) c room → m .number ≡ 0 → placeNumber (s .kind) (c .«any_zero») (s .base) (found c) room ≡ 0
+    placed-of m is z = sym (ap (λ (x : Measured). x .number) is ∙ measured-number (s .kind) (s .base) c room) ∙ z
 
     module _ (placed : placeNumber (s .kind) (c .«any_zero») (s .base) (found c) room ≡ 0) where
       zero-number : placeNumber (s .kind) (anyAtZero (readsOf s)) (s .base) (chunksOf s) (s .buffer) ≡ 0
@@ -77,11 +89,6 @@ module _ (s : State) (room : ℕ) where
       unfolding canArise
       other-base h = simp (le-leb _ _ few, eq-eqb _ _ rise, zero-number, ne-eqb _ _ (λ e. h (base-of ∙ e)))
 
-      pub pulled-of : pulledLength (s .kind) (s .base) (totalLength (found c)) ≡ length (pulledOf s)
-      pulled-of =
-          let p = place-passed (s .kind) (anyAtZero (readsOf s)) (s .base) (chunksOf s) (s .buffer) zero-number in
-          rw (k .runs) (pulled-many (s .kind) (anyAtZero (readsOf s)) (s .base) (chunksOf s) (p .fits) (p .stand))
-
       pub small-base : s .base ≤ 1048576
       small-base =
           let p = place-passed (s .kind) (anyAtZero (readsOf s)) (s .base) (chunksOf s) (s .buffer) zero-number in
@@ -89,22 +96,27 @@ module _ (s : State) (room : ℕ) where
           omega arith
 
       module _ (based : judgedBase (s .kind) (s .base) (c .«zero_length») ≡ s .base) where
-        pub over-taken : length (pulledOf s) < s .taken → fitsState s room ≡ false
+        pub pulled-of : c .«all_length» ≡ length (pulledOf s)
+        pulled-of =
+            let p = place-passed (s .kind) (anyAtZero (readsOf s)) (s .base) (chunksOf s) (s .buffer) zero-number in
+            k .all ∙ rw (k .runs, k .zero) (pulled-all (s .kind) (s .base) (readsOf s) (p .fits) (p .stand) (sym base-of ∙ based))
+
+        pub over-taken : c .«all_length» < s .taken → fitsState s room ≡ false
         unfolding canArise
-        over-taken h = simp (le-leb _ _ few, eq-eqb _ _ rise, zero-number, eq-eqb _ _ (sym base-of ∙ based), lt-leb _ _ h)
+        over-taken h = simp (le-leb _ _ few, eq-eqb _ _ rise, zero-number, eq-eqb _ _ (sym base-of ∙ based), lt-leb _ _ (rw pulled-of at h))
 
         pub fit : s .taken ≤ length (pulledOf s) → fitsState s room ≡ true
         unfolding canArise
         fit h = simp (le-leb _ _ few, eq-eqb _ _ rise, zero-number, eq-eqb _ _ (sym base-of ∙ based), le-leb _ _ h, eq-eqb _ _ same)
 
-        pub fit-judges : (r : Judged) (message : ℕ) → message ≡ messageLength (s .base) (found c) → s .taken ≤ length (pulledOf s) →
-            r ≡ record { runs = c .runs; count = c .count; message = message; pulled = length (pulledOf s); fits = true } → Judges s room r
+        pub fit-judges : (r : Judged) (message : ℕ) → message ≡ messageLength (s .base) (found c) → s .taken ≤ c .«all_length» →
+            r ≡ record { runs = c .runs; count = c .count; message = message; pulled = c .«all_length»; fits = true } → Judges s room r
         fit-judges r message m h e =
             let p = place-passed (s .kind) (anyAtZero (readsOf s)) (s .base) (chunksOf s) (s .buffer) zero-number in
             let holds = p .holds in
             rw e
             (record {
-              fits = sym (fit h);
+              fits = sym (fit (rw pulled-of at h));
               known = λ q. record {
                 count = k .count;
                 runs = k .runs;
@@ -112,7 +124,7 @@ module _ (s : State) (room : ℕ) where
                 message = rw (k .runs) at m;
                 holds = omega arith;
                 places = pulled-places (s .kind) (anyAtZero (readsOf s)) (s .base) (chunksOf s) (p .fits);
-                pulled = refl;
-                taken = h;
+                pulled = pulled-of;
+                taken = rw pulled-of at h;
               };
             })

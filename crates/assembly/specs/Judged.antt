@@ -1,13 +1,14 @@
 -- What the functions under the reassembly answer. Only internal contracts cite these.
-use Prim.Native.Nat.{ℕ, _+_, _≤_}
+use Prim.Native.Nat.{ℕ, _≤_}
 use mathlib.Core.Path.{_≡_}
 use mathlib.Core.Bool.{Bool, true, false}
 use lib.ListN.{length, take}
 use Rattle.layout.specs.Layout.{messageLength}
 use Rattle.placing.specs.Sources.{Laid, sourcePlaces}
-use Rattle.assembly.specs.Assembly.{chunksOf, pulledOf, fitsState}
+use Rattle.assembly.specs.Assembly.{chunksOf, pulledOf, fitsState, takeAnswer}
 use Rattle.assembly.specs.declared.State.{State}
 use Rattle.assembly.specs.declared.Judged.{Judged}
+use Rattle.assembly.specs.declared.Taken.{Taken}
 use Rattle.header.specs.declared.Kind.{Kind}
 use Rattle.header.specs.declared.Kind.the-variants.{Msg, Nomsg, Error}
 
@@ -21,12 +22,6 @@ abbrev pub isNomsg : Kind → Bool
 isNomsg Msg = false
 isNomsg Nomsg = true
 isNomsg (Error e) = false
-
--- How many bytes are to be pulled.
-abbrev pub pulledLength : Kind → ℕ → ℕ → ℕ
-pulledLength Msg base chunks = chunks
-pulledLength Nomsg base chunks = base + chunks
-pulledLength (Error e) base chunks = chunks
 
 -- What is known of a state that fits.
 pub record Known (s : State) (room : ℕ) (r : Judged) : Type 0 where
@@ -42,3 +37,7 @@ pub record Known (s : State) (room : ℕ) (r : Judged) : Type 0 where
 pub record Judges (s : State) (room : ℕ) (r : Judged) : Type 0 where
   pub fits : r .fits ≡ fitsState s room
   pub known : r .fits ≡ true → Known s room r
+
+-- The count behind a piece, and the number.
+abbrev pub takenAnswer : State → ℕ → ℕ → Taken
+takenAnswer s room size = record { taken = takeAnswer s room size .state .taken; number = takeAnswer s room size .number }

@@ -16,7 +16,7 @@ ghost use Rattle.layout.specs.Layout.{run, messageLength};
 ghost use Rattle.layout.specs.Walks.{found};
 ghost use Rattle.placing.specs.Sources.{Laid};
 ghost use Rattle.assembly.specs.Assembly.{noState, laid, startAnswer, startInto, takeAnswer, takenInto, askNumber, askPart};
-ghost use Rattle.assembly.specs.Judged.{judgedBase, isNomsg, pulledLength, Judges};
+ghost use Rattle.assembly.specs.Judged.{judgedBase, isNomsg, Judges, takenAnswer};
 
 // "state not one that can arise, or another buffer length than at the start"
 pub const STATE_UNFIT: u32 = 17;
@@ -44,6 +44,12 @@ pub struct StartAnswer {
 
 pub struct PieceAnswer {
     pub state: State,
+    pub number: u32,
+}
+
+// The count behind a piece, and the number.
+pub struct Taken {
+    pub taken: usize,
     pub number: u32,
 }
 
@@ -152,18 +158,6 @@ fn is_nomsg(kind: Kind) -> bool
     }
 }
 
-// How many bytes are to be pulled, from those of the base and of the chunks.
-fn pulled_length(kind: Kind, base: usize, chunks: usize) -> usize
-    requires { ⌜ (base ≤ 1048576) × (chunks ≤ 68719476736) ⌝ }
-    ensures { λ r. ⌜ r ≡ pulledLength kind base chunks ⌝ }
-{
-    match kind {
-        Kind::Msg => chunks,
-        Kind::Nomsg => base + chunks,
-        Kind::Error(_) => chunks,
-    }
-}
-
 // A state that does not fit.
 fn unfit() -> Judged
     ensures { λ r. ⌜ r ≡ record { runs = replicate 16 (run 0 0); count = 0; message = 0; pulled = 0; fits = false } ⌝ }
@@ -204,17 +198,44 @@ fn judge(s: State, room: usize) -> Judged
     if base_length(kind, base, c.zero_length) != base {
         return unfit();
     }
-    let runs = c.runs;
-    let pulled = pulled_length(kind, base, layout::total_length(runs, c.count));
-    if pulled < s.taken {
+    if c.all_length < s.taken {
         return unfit();
     }
+    let runs = c.runs;
     Judged {
         runs,
         count: c.count,
         message: measured.message,
-        pulled,
+        pulled: c.all_length,
         fits: true,
+    }
+}
+
+// Takes a piece without the state, which a caller need not have copied back. For the crates of this library.
+pub fn put_piece(s: State, piece: &[u8], out: &mut [u8]) -> Taken
+    ensures answer { λ r. ⌜ r ≡ takenAnswer s (length (now (out .entry))) (length (now (piece .entry))) ⌝ }
+    ensures buffer { λ _. ⌜ now (out .exit) ≡ takenInto s (now (piece .entry)) (now (out .entry)) ⌝ }
+{
+    let j = judge(s, out.len());
+    if !j.fits {
+        return Taken {
+            taken: s.taken,
+            number: STATE_UNFIT,
+        };
+    }
+    let size = piece.len();
+    if j.pulled - s.taken < size {
+        return Taken {
+            taken: s.taken,
+            number: PIECE_LONG,
+        };
+    }
+    let runs = j.runs;
+    let kind = s.kind;
+    placing::place(out, piece, runs, j.count, s.base, is_nomsg(kind), s.taken);
+    Taken {
+        taken: s.taken + size,
+        number: 0,
     }
 }
 
@@ -223,33 +244,18 @@ pub fn take_piece(s: State, piece: &[u8], out: &mut [u8]) -> PieceAnswer
     ensures answer { λ r. ⌜ r ≡ takeAnswer s (length (now (out .entry))) (length (now (piece .entry))) ⌝ }
     ensures buffer { λ _. ⌜ now (out .exit) ≡ takenInto s (now (piece .entry)) (now (out .entry)) ⌝ }
 {
-    let j = judge(s, out.len());
-    if !j.fits {
-        return PieceAnswer {
-            state: s,
-            number: STATE_UNFIT,
-        };
-    }
-    let size = piece.len();
-    if j.pulled - s.taken < size {
-        return PieceAnswer {
-            state: s,
-            number: PIECE_LONG,
-        };
-    }
-    let runs = j.runs;
-    let kind = s.kind;
+    let done = put_piece(s, piece, out);
     let reads = s.reads;
-    placing::place(out, piece, runs, j.count, s.base, is_nomsg(kind), s.taken);
+    let kind = s.kind;
     PieceAnswer {
         state: State {
             reads,
             kind,
             base: s.base,
             buffer: s.buffer,
-            taken: s.taken + size,
+            taken: done.taken,
         },
-        number: 0,
+        number: done.number,
     }
 }
 

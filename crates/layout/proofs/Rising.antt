@@ -8,14 +8,14 @@ use native.Mathlib.Omega.{arith}
 use native.Mathlib.Nat.{le-refl, add-zero}
 use native.Mathlib.Numerals.{add-one}
 use lib.ListN.{length, take, set, getD}
-use lib.Seq.{take-suc, take-suc-set}
+use lib.Seq.{take-suc, take-suc-set, getD-set-same}
 use lib.Dec.{eqb}
-use borrow.Author.Tests.{eq-eqb, ne-eqb}
+use borrow.Author.Tests.{eqb-true, eqb-false, eq-eqb, ne-eqb}
 use Rattle.wire.specs.declared.ReadSegment.{ReadSegment}
 use Rattle.layout.specs.Layout.{run, joinChunk, anyAtZero, zeroLength, otherChunks, totalLength}
-use Rattle.layout.specs.Walks.{lastAt, Above, UpTo, Joined}
+use Rattle.layout.specs.Walks.{lastRun, Above, UpTo, Near, Joined, withTable, tailWith}
 use Rattle.layout.specs.declared.Run.{Run}
-use Rattle.layout.specs.declared.Chunks.{Chunks}
+use Rattle.layout.specs.declared.Tail.{Tail}
 use Rattle.layout.proofs.Joins.{Order, less, same, more, order, join-less, join-same, join-more, join-comm}
 
 -- Chunks of which the last stands at c.
@@ -91,6 +91,16 @@ unfolding zeroLength
 zero-next [] x = omega arith
 zero-next (y ∷ xs) x = omega (arith, zero-next xs x)
 
+-- Where no segment stands at 0, there are no bytes.
+pub none-at-zero : (xs : List ReadSegment) → anyAtZero xs ≡ false → zeroLength xs ≡ 0
+unfolding anyAtZero zeroLength
+none-at-zero [] e = refl
+none-at-zero (x ∷ xs) e = by (eqb (x .position) 0) e (none-at-zero xs)
+  where
+    by : (b : Bool) → (b || anyAtZero xs) ≡ false → (anyAtZero xs ≡ false → zeroLength xs ≡ 0) → cond b (x .target .length) 0 + zeroLength xs ≡ 0
+    by true f ih = absurd (let n : _≡_ {A = ℕ} 0 1 = cc in omega arith)
+    by false f ih = omega (arith, ih f)
+
 pub others-next : (xs : List ReadSegment) (x : ReadSegment) →
     otherChunks (xs ++ (x ∷ [])) ≡ cond (eqb (x .position) 0) (otherChunks xs) (joinChunk (x .position) (x .target .length) (otherChunks xs))
 unfolding otherChunks
@@ -107,35 +117,44 @@ others-next (y ∷ xs) x = by (eqb (y .position) 0) (eqb (x .position) 0) (other
 suc-sub-one : (n : ℕ) → suc n - 1 ≡ n
 suc-sub-one n = omega arith
 
--- The last of n runs stands at its position.
-pub last-is : (n : ℕ) (a : List Run) → (n ≡ 0 → ⊥) → lastAt n a ≡ getD a (n - 1) (run 0 0) .at
-unfolding lastAt
-last-is zero a h = absurd (h refl)
-last-is (suc n) a h = rw (suc-sub-one n)
-
--- Bytes that join the last of n chunks, in the array that holds them.
-pub merged : (p l n : ℕ) (a : List Run) → n ≤ length a → (p ≡ 0 → ⊥) → lastAt n a ≡ p → UpTo p (take n a) →
-    take n (set a (n - 1) (run p (l + getD a (n - 1) (run 0 0) .length))) ≡ joinChunk p l (take n a)
-unfolding lastAt
+-- Bytes that join the last of n chunks, in the table that holds them.
+merged : (p l n : ℕ) (a : List Run) → n ≤ length a → (p ≡ 0 → ⊥) → lastRun n a .at ≡ p → UpTo p (take n a) →
+    take n (set a (n - 1) (run p (l + lastRun n a .length))) ≡ joinChunk p l (take n a)
+unfolding lastRun
 merged p l zero a h some e u = absurd (some (sym e))
 merged p l (suc n) a h some e u =
     let split = take-suc a n (run 0 0) (omega arith) in
     rw (suc-sub-one n, take-suc-set a n (run p (l + getD a n (run 0 0) .length)) (omega arith), split)
     (sym (join-last p l (take n a) (getD a n (run 0 0)) (rw split at u) e))
 
--- Bytes behind n chunks, in the array that holds them.
-pub pushed : (p l n : ℕ) (a : List Run) → n < length a → (lastAt n a ≡ p → ⊥) → UpTo p (take n a) →
+-- Bytes behind n chunks, in the table that holds them.
+pushed : (p l n : ℕ) (a : List Run) → n < length a → (lastRun n a .at ≡ p → ⊥) → UpTo p (take n a) →
     take (n + 1) (set a n (run p l)) ≡ joinChunk p l (take n a)
-unfolding lastAt joinChunk
+unfolding lastRun joinChunk
 pushed p l zero a h new u = take-suc-set a 0 (run p l) h
 pushed p l (suc n) a h new u =
     let split = take-suc a n (run 0 0) (omega arith) in
     rw (add-one, take-suc-set a (suc n) (run p l) h, split)
     (sym (join-end p l (take n a) (getD a n (run 0 0)) (rw split at u) new))
 
+-- The last of n chunks, put where it is.
+kept : (n : ℕ) (a : List Run) → n ≤ length a → take n (set a (n - 1) (lastRun n a)) ≡ take n a
+unfolding lastRun
+kept zero a h = refl
+kept (suc n) a h = rw (suc-sub-one n, take-suc-set a n (getD a n (run 0 0)) (omega arith), take-suc a n (run 0 0) (omega arith))
+
+last-kept : (n : ℕ) (a : List Run) → n ≤ length a → lastRun n a ≡ lastRun n (set a (n - 1) (lastRun n a))
+unfolding lastRun
+last-kept zero a h = refl
+last-kept (suc n) a h = rw (suc-sub-one n) (sym (getD-set-same a n (getD a n (run 0 0)) (run 0 0) (omega arith)))
+
+last-set : (n : ℕ) (a : List Run) (c : Run) → n < length a → c ≡ lastRun (n + 1) (set a n c)
+unfolding lastRun
+last-set n a c h = rw add-one (sym (getD-set-same a n c (run 0 0) h))
+
 -- Where the last chunk stands at a position that is not 0, there is one.
-pub some-there : (n p : ℕ) (a : List Run) → lastAt n a ≡ p → (p ≡ 0 → ⊥) → 1 ≤ n
-unfolding lastAt
+some-there : (n p : ℕ) (a : List Run) → lastRun n a .at ≡ p → (p ≡ 0 → ⊥) → n ≡ (n - 1) + 1
+unfolding lastRun
 some-there zero p a e some = absurd (some (sym e))
 some-there (suc n) p a e some = omega arith
 
@@ -144,12 +163,12 @@ unfolding totalLength
 total-next [] c = omega arith
 total-next (d ∷ cs) c = omega (arith, total-next cs c)
 
--- One of n chunks has no more bytes than all.
-pub within-total : (n : ℕ) (a : List Run) → 1 ≤ n → n ≤ length a → getD a (n - 1) (run 0 0) .length ≤ totalLength (take n a)
-within-total zero a some h = absurd (omega arith)
-within-total (suc n) a some h = rw (suc-sub-one n, take-suc a n (run 0 0) (omega arith), total-next) (omega arith)
+-- The last of n chunks has no more bytes than all.
+pub within-total : (n : ℕ) (a : List Run) → n ≤ length a → lastRun n a .length ≤ totalLength (take n a)
+unfolding lastRun totalLength
+within-total zero a h = omega arith
+within-total (suc n) a h = rw (take-suc a n (run 0 0) (omega arith), total-next) (omega arith)
 
--- The chunks with a segment more: at position 0, at the last chunk's position, or behind all.
 or-true : (b : Bool) → true ≡ (b || true)
 or-true true = refl
 or-true false = refl
@@ -158,52 +177,90 @@ or-false : (b : Bool) → b ≡ (b || false)
 or-false true = refl
 or-false false = refl
 
-module _ (x : ReadSegment) (c : Chunks) (p l : ℕ) (here : p ≡ x .position) (size : l ≡ x .target .length) (near : p < 4294967296) (small : l < 4294967296) where
-  small-too : x .target .length < 4294967296
-  small-too = rw size at small
+-- The walk behind a segment more, with its last chunk put into the table: the segment has joined.
+module _ (x : ReadSegment) (t : Tail) (runs : List Run) (near : Near x) (full : length runs ≡ 16) (room : t .count < 16) (rise : UpTo (x .position) (take (t .count) runs)) (last : t .last ≡ lastRun (t .count) runs) where
+  abbrev pub Steps : Tail → Type 0
+  Steps r = Joined x (withTable runs t) (withTable (set runs (r .count - 1) (r .last)) r) × (r .last ≡ lastRun (r .count) (set runs (r .count - 1) (r .last)))
 
-  near-too : x .position < 4294967296
-  near-too = rw here at near
+  step-zero : eqb (x .position) 0 ≡ true → Steps (tailWith t x)
+  unfolding tailWith
+  step-zero e =
+      rw (e, last) (
+        record {
+          any = rw e (or-true (t .«any_zero»));
+          zero = rw e;
+          runs = rw e (kept (t .count) runs (omega arith));
+          count = omega arith;
+          all = refl;
+          near = near;
+        },
+        last-kept (t .count) runs (omega arith),
+      )
 
-  pub joined-zero : p ≡ 0 → Joined x c (record { runs = c .runs; count = c .count; «zero_length» = c .«zero_length» + l; «any_zero» = true })
-  joined-zero e =
-      let at-zero = eq-eqb (x .position) 0 (sym here ∙ e) in
-      record {
-        any = rw at-zero (or-true (c .«any_zero»));
-        zero = rw (at-zero, size);
-        runs = rw at-zero;
-        count = omega arith;
-        small = small-too;
-        near = near-too;
-      }
+  step-last : eqb (x .position) 0 ≡ false → eqb (t .last .at) (x .position) ≡ true → Steps (tailWith t x)
+  unfolding tailWith
+  step-last e f =
+      let elsewhere = eqb-false (x .position) 0 e in
+      let here : lastRun (t .count) runs .at ≡ x .position = rw (← last) (eqb-true (t .last .at) (x .position) f) in
+      let some = some-there (t .count) (x .position) runs here elsewhere in
+      let c = run (x .position) (x .target .length + lastRun (t .count) runs .length) in
+      rw (e, f, last) (
+        record {
+          any = rw e (or-false (t .«any_zero»));
+          zero = rw (e, add-zero);
+          runs = rw e (merged (x .position) (x .target .length) (t .count) runs (omega arith) elsewhere here rise);
+          count = omega arith;
+          all = refl;
+          near = near;
+        },
+        rw (← some) at (last-set (t .count - 1) runs c (omega arith)),
+      )
 
-  module _ (elsewhere : p ≡ 0 → ⊥) (full : length (c .runs) ≡ 16) (room : c .count < 16) (rise : UpTo (x .position) (take (c .count) (c .runs))) where
+  step-end : eqb (x .position) 0 ≡ false → eqb (t .last .at) (x .position) ≡ false → Steps (tailWith t x)
+  unfolding tailWith
+  step-end e f =
+      let new : (lastRun (t .count) runs .at ≡ x .position → ⊥) = rw (← last) (eqb-false (t .last .at) (x .position) f) in
+      let back : (t .count + 1) - 1 ≡ t .count = omega arith in
+      rw (e, f, back) (
+        record {
+          any = rw e (or-false (t .«any_zero»));
+          zero = rw (e, add-zero);
+          runs = rw e (pushed (x .position) (x .target .length) (t .count) runs (omega arith) new rise);
+          count = omega arith;
+          all = refl;
+          near = near;
+        },
+        last-set (t .count) runs (run (x .position) (x .target .length)) (omega arith),
+      )
+
+  pub steps : Steps (tailWith t x)
+  steps = by (eqb (x .position) 0) (eqb (t .last .at) (x .position)) refl refl
+    where
+      by : (a b : Bool) → eqb (x .position) 0 ≡ a → eqb (t .last .at) (x .position) ≡ b → Steps (tailWith t x)
+      by true b e f = step-zero e
+      by false true e f = step-last e f
+      by false false e f = step-end e f
+
+-- What the step over a segment answers is the walk behind it.
+module _ (t : Tail) (x : ReadSegment) (p l : ℕ) (here : p ≡ x .position) (size : l ≡ x .target .length) where
+  pub near-words : p < 4294967296 → l < 4294967296 → Near x
+  near-words a b = record { position = rw here at a; length = rw size at b }
+
+  pub tail-zero : p ≡ 0 →
+      record { last = t .last; count = t .count; «zero_length» = t .«zero_length» + l; «any_zero» = true; «all_length» = t .«all_length» + l } ≡ tailWith t x
+  unfolding tailWith
+  tail-zero e = rw (size, eq-eqb (x .position) 0 (sym here ∙ e))
+
+  module _ (elsewhere : p ≡ 0 → ⊥) where
     not-zero : eqb (x .position) 0 ≡ false
     not-zero = ne-eqb (x .position) 0 (λ e. elsewhere (here ∙ e))
 
-    rise-here : UpTo p (take (c .count) (c .runs))
-    rise-here = rw here rise
+    pub tail-last : t .last .at ≡ p →
+        record { last = run p (l + t .last .length); count = t .count; «zero_length» = t .«zero_length»; «any_zero» = t .«any_zero»; «all_length» = t .«all_length» + l } ≡ tailWith t x
+    unfolding tailWith
+    tail-last e = rw (size, not-zero, eq-eqb (t .last .at) (x .position) (e ∙ here), here)
 
-    pub joined-last : lastAt (c .count) (c .runs) ≡ p →
-        Joined x c (record { runs = set (c .runs) (c .count - 1) (run p (l + getD (c .runs) (c .count - 1) (run 0 0) .length)); count = c .count; «zero_length» = c .«zero_length»; «any_zero» = c .«any_zero» })
-    joined-last e =
-        record {
-          any = rw not-zero (or-false (c .«any_zero»));
-          zero = rw (not-zero, add-zero);
-          runs = rw (not-zero, ← here, ← size) (merged p l (c .count) (c .runs) (omega arith) elsewhere e rise-here);
-          count = omega arith;
-          small = small-too;
-          near = near-too;
-        }
-
-    pub joined-end : (lastAt (c .count) (c .runs) ≡ p → ⊥) →
-        Joined x c (record { runs = set (c .runs) (c .count) (run p l); count = c .count + 1; «zero_length» = c .«zero_length»; «any_zero» = c .«any_zero» })
-    joined-end new =
-        record {
-          any = rw not-zero (or-false (c .«any_zero»));
-          zero = rw (not-zero, add-zero);
-          runs = rw (not-zero, ← here, ← size) (pushed p l (c .count) (c .runs) (omega arith) new rise-here);
-          count = omega arith;
-          small = small-too;
-          near = near-too;
-        }
+    pub tail-end : (t .last .at ≡ p → ⊥) →
+        record { last = run p l; count = t .count + 1; «zero_length» = t .«zero_length»; «any_zero» = t .«any_zero»; «all_length» = t .«all_length» + l } ≡ tailWith t x
+    unfolding tailWith
+    tail-end n = rw (size, not-zero, ne-eqb (t .last .at) (x .position) (λ e. n (e ∙ sym here)), here)

@@ -8,7 +8,7 @@ ghost use Prim.Native.Nat.{_+_, _-_, _≤_, _<_};
 ghost use lib.ListN.{take};
 ghost use Rattle.lists.specs.Lists.{positionsNumber};
 ghost use Rattle.layout.specs.Layout.{roundedUp, totalLength, kindFits, stands, places, basePlaces};
-ghost use Rattle.layout.specs.Walks.{found, allLength, lastAt, UpTo, Joined, ChunksOf, Bounded, standingOf, measuredOf, Seeks};
+ghost use Rattle.layout.specs.Walks.{found, tailWith, Near, ChunksOf, Bounded, standingOf, measuredOf, Seeks};
 
 // "kind and lists do not fit"
 pub const KIND_AND_LISTS: u32 = 12;
@@ -31,12 +31,23 @@ pub struct Run {
     pub length: usize,
 }
 
-// The chunks of a read list: those elsewhere than at position 0 by position, and of the chunk at 0 its length.
+// The chunks of a read list: those elsewhere than at position 0 by position, of the chunk at 0 its length, and the bytes of all.
 pub struct Chunks {
     pub runs: [Run; 16],
     pub count: usize,
     pub zero_length: usize,
     pub any_zero: bool,
+    pub all_length: usize,
+}
+
+// The same without the table, of which the last chunk alone; one of no bytes at 0 if there is none. A walk hands it on, since
+// a table by value is copied at each step.
+pub struct Tail {
+    pub last: Run,
+    pub count: usize,
+    pub zero_length: usize,
+    pub any_zero: bool,
+    pub all_length: usize,
 }
 
 // The chunks stand, and their rounded lengths make so much together; or one of them does not.
@@ -73,58 +84,56 @@ pub fn padding(length: usize) -> usize
     rounded(length) - length
 }
 
-// The position of the last of so many chunks; 0, where none of them stands, if there is none.
-fn last_position(runs: [Run; 16], count: usize) -> usize
-    requires { ⌜ count ≤ 16 ⌝ }
-    ensures { λ r. ⌜ r ≡ lastAt count runs ⌝ }
+// Where the last of so many chunks is in their table.
+fn last_place(count: usize) -> usize
+    ensures { λ r. ⌜ r ≡ count - 1 ⌝ }
 {
     if count == 0 {
         return 0;
     }
-    let last = runs[count - 1];
-    last.at
+    count - 1
 }
 
 // A segment joins the chunk of its position, which is the last if it is there.
-fn add_segment(c: Chunks, x: ReadSegment) -> Chunks
-    requires { ⌜ (c .count < 16) × UpTo (x .position) (found c) × (allLength c ≤ 64424509440) ⌝ }
-    ensures { λ r. ⌜ Joined x c r ⌝ }
+fn add_segment(t: Tail, x: ReadSegment) -> Tail
+    requires { ⌜ (t .count < 16) × (t .last .length ≤ t .«all_length») × (t .«zero_length» ≤ t .«all_length») × (t .«all_length» ≤ 64424509440) ⌝ }
+    ensures { λ r. ⌜ (r ≡ tailWith t x) × Near x ⌝ }
 {
+    let last = t.last;
     let target = x.target;
     let position = wide(x.position);
     let length = wide(target.length);
-    let count = c.count;
-    let mut runs = c.runs;
+    let all_length = t.all_length + length;
     if position == 0 {
-        return Chunks {
-            runs,
-            count,
-            zero_length: c.zero_length + length,
+        return Tail {
+            last,
+            count: t.count,
+            zero_length: t.zero_length + length,
             any_zero: true,
+            all_length,
         };
     }
-    if last_position(runs, count) == position {
-        let last = runs[count - 1];
-        runs[count - 1] = Run {
+    if last.at == position {
+        return Tail {
+            last: Run {
+                at: position,
+                length: length + last.length,
+            },
+            count: t.count,
+            zero_length: t.zero_length,
+            any_zero: t.any_zero,
+            all_length,
+        };
+    }
+    Tail {
+        last: Run {
             at: position,
-            length: length + last.length,
-        };
-        return Chunks {
-            runs,
-            count,
-            zero_length: c.zero_length,
-            any_zero: c.any_zero,
-        };
-    }
-    runs[count] = Run {
-        at: position,
-        length,
-    };
-    Chunks {
-        runs,
-        count: count + 1,
-        zero_length: c.zero_length,
-        any_zero: c.any_zero,
+            length,
+        },
+        count: t.count + 1,
+        zero_length: t.zero_length,
+        any_zero: t.any_zero,
+        all_length,
     }
 }
 
@@ -134,30 +143,28 @@ pub fn chunks_of(segments: [ReadSegment; 16], n: usize) -> Chunks
     ensures { λ r. ⌜ ChunksOf (take n segments) r ⌝ }
 {
     let z = Run { at: 0, length: 0 };
-    let mut c = Chunks {
-        runs: [z; 16],
+    let mut runs = [z; 16];
+    let mut t = Tail {
+        last: z,
         count: 0,
         zero_length: 0,
         any_zero: false,
+        all_length: 0,
     };
     for i in 0..n {
         let x = segments[i];
-        c = add_segment(c, x);
+        t = add_segment(t, x);
+        let k = last_place(t.count);
+        let last = t.last;
+        runs[k] = last;
     }
-    c
-}
-
-// The bytes of the first n chunks.
-pub fn total_length(runs: [Run; 16], n: usize) -> usize
-    requires { ⌜ (n ≤ 16) × (totalLength (take n runs) ≤ 68719476736) ⌝ }
-    ensures { λ r. ⌜ r ≡ totalLength (take n runs) ⌝ }
-{
-    let mut sum = 0;
-    for i in 0..n {
-        let c = runs[i];
-        sum += c.length;
+    Chunks {
+        runs,
+        count: t.count,
+        zero_length: t.zero_length,
+        any_zero: t.any_zero,
+        all_length: t.all_length,
     }
-    sum
 }
 
 // Whether each chunk stands behind the former one and within the base.
