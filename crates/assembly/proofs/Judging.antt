@@ -6,17 +6,17 @@ use mathlib.Core.List.{List}
 use Prim.Native.Nat.{ℕ, _+_, _≤_, _<_}
 use native.Mathlib.Omega.{arith}
 use borrow.Author.Tests.{le-leb, lt-leb, eq-eqb, ne-eqb, not-true}
-use lib.ListN.{length, replicate}
+use lib.ListN.{length}
 use Rattle.wire.specs.declared.ReadSegment.{ReadSegment}
 use Rattle.lists.specs.Lists.{positionsNumber}
 use Rattle.header.specs.declared.Kind.{Kind}
 use Rattle.header.specs.declared.Kind.the-variants.{Msg, Nomsg, Error}
-use Rattle.layout.specs.Layout.{run, kindFits, anyAtZero, zeroLength, otherChunks, baseLength, stands, totalLength, messageLength, placeNumber, pulledPlaces}
-use Rattle.layout.specs.Walks.{found, measuredOf, ChunksOf}
+use Rattle.layout.specs.Layout.{kindFits, anyAtZero, zeroLength, otherChunks, baseLength, stands, totalLength, placeNumber, pulledPlaces}
+use Rattle.layout.specs.Walks.{sumsOf, measuredOf}
 use Rattle.layout.specs.declared.Run.{Run}
-use Rattle.layout.specs.declared.Chunks.{Chunks}
+use Rattle.layout.specs.declared.Sums.{Sums}
 use Rattle.layout.specs.declared.Measured.{Measured}
-use Rattle.layout.proofs.Rising.{none-at-zero}
+use Rattle.layout.proofs.Summing.{none-at-zero, read-total}
 use Rattle.layout.proofs.Putting.{length-places}
 use Rattle.placing.specs.Sources.{sourcePlaces}
 use Rattle.placing.proofs.Laws.{length-based}
@@ -24,10 +24,10 @@ use Rattle.assembly.specs.Assembly.{readsOf, chunksOf, pulledOf, canAris
 use Rattle.assembly.specs.Judged.{judgedBase, isNomsg, Judges}
 use Rattle.assembly.specs.declared.State.{State}
 use Rattle.assembly.specs.declared.Judged.{Judged}
-use Rattle.assembly.proofs.Starting.{place-passed, base-same, measured-number}
+use Rattle.assembly.proofs.Starting.{Passed, place-passed, base-same, measured-number, measured-message}
 
 abbrev pub unfitting : Judged
-unfitting = record { runs = replicate 16 (run 0 0); count = 0; message = 0; pulled = 0; fits = false }
+unfitting = record { message = 0; pulled = 0; fits = false }
 
 pub unfit-judges : (s : State) (room : ℕ) (r : Judged) → r ≡ unfitting → fitsState s room ≡ false → Judges s room r
 unfit-judges s room r e f =
@@ -65,63 +65,53 @@ module _ (s : State) (room : ℕ) where
   pub other-buffer : (s .buffer ≡ room → ⊥) → fitsState s room ≡ false
   other-buffer h = simp (ne-eqb _ _ h) (and-false (canArise s))
 
-  module _ (few : s .reads .count ≤ 16) (rise : positionsNumber 0 (readsOf s) 0 ≡ 0) (same : s .buffer ≡ room) (c : Chunks) (k : ChunksOf (readsOf s) c) where
-    number-of : placeNumber (s .kind) (c .«any_zero») (s .base) (found c) room ≡ placeNumber (s .kind) (anyAtZero (readsOf s)) (s .base) (chunksOf s) (s .buffer)
-    number-of = rw (k .any, k .runs, same)
+  module _ (few : s .reads .count ≤ 16) (rise : positionsNumber 0 (readsOf s) 0 ≡ 0) (same : s .buffer ≡ room) (sums : Sums) (summed : sums ≡ sumsOf (readsOf s)) (m : Measured) (measured : m ≡ measuredOf (s .kind) (s .base) (sums .«any_zero») (chunksOf s) room) where
+    number-of : m .number ≡ placeNumber (s .kind) (anyAtZero (readsOf s)) (s .base) (chunksOf s) (s .buffer)
+    number-of = measured-number (s .kind) (s .base) (sums .«any_zero») (chunksOf s) room m measured ∙ rw (summed, same)
 
-    pub misplaced : (m : Measured) → m ≡ measuredOf (s .kind) (s .base) c room → (m .number ≡ 0 → ⊥) → fitsState s room ≡ false
+    pub misplaced : (m .number ≡ 0 → ⊥) → fitsState s room ≡ false
     unfolding canArise
-    misplaced m is h =
-        let number = ap (λ (x : Measured). x .number) is ∙ measured-number (s .kind) (s .base) c room in
-        simp (le-leb _ _ few, eq-eqb _ _ rise, ne-eqb _ 0 (λ e. h (number ∙ number-of ∙ e)))
+    misplaced h = simp (le-leb _ _ few, eq-eqb _ _ rise, ne-eqb _ 0 (λ e. h (number-of ∙ e)))
 
-    pub placed-of : (m : Measured) → m ≡ measuredOf (s .kind) (s .base) c room → m .number ≡ 0 → placeNumber (s .kind) (c .«any_zero») (s .base) (found c) room ≡ 0
-    placed-of m is z = sym (ap (λ (x : Measured). x .number) is ∙ measured-number (s .kind) (s .base) c room) ∙ z
-
-    module _ (placed : placeNumber (s .kind) (c .«any_zero») (s .base) (found c) room ≡ 0) where
+    module _ (placed : m .number ≡ 0) where
       zero-number : placeNumber (s .kind) (anyAtZero (readsOf s)) (s .base) (chunksOf s) (s .buffer) ≡ 0
       zero-number = sym number-of ∙ placed
 
-      base-of : judgedBase (s .kind) (s .base) (c .«zero_length») ≡ baseLength (s .kind) (s .base) (readsOf s)
-      base-of = base-same (s .kind) (s .base) (c .«zero_length») (readsOf s) (k .zero)
+      passed : Passed (s .kind) (anyAtZero (readsOf s)) (s .base) (chunksOf s) (s .buffer)
+      passed = place-passed (s .kind) (anyAtZero (readsOf s)) (s .base) (chunksOf s) (s .buffer) zero-number
 
-      pub other-base : (judgedBase (s .kind) (s .base) (c .«zero_length») ≡ s .base → ⊥) → fitsState s room ≡ false
+      base-of : judgedBase (s .kind) (s .base) (sums .«zero_length») ≡ baseLength (s .kind) (s .base) (readsOf s)
+      base-of = base-same (s .kind) (s .base) (sums .«zero_length») (readsOf s) (ap (λ (x : Sums). x .«zero_length») summed)
+
+      pub other-base : (judgedBase (s .kind) (s .base) (sums .«zero_length») ≡ s .base → ⊥) → fitsState s room ≡ false
       unfolding canArise
       other-base h = simp (le-leb _ _ few, eq-eqb _ _ rise, zero-number, ne-eqb _ _ (λ e. h (base-of ∙ e)))
 
-      pub small-base : s .base ≤ 1048576
-      small-base =
-          let p = place-passed (s .kind) (anyAtZero (readsOf s)) (s .base) (chunksOf s) (s .buffer) zero-number in
-          let long = p .long in
-          omega arith
-
-      module _ (based : judgedBase (s .kind) (s .base) (c .«zero_length») ≡ s .base) where
-        pub pulled-of : c .«all_length» ≡ length (pulledOf s)
+      module _ (based : judgedBase (s .kind) (s .base) (sums .«zero_length») ≡ s .base) where
+        pulled-of : sums .«all_length» ≡ length (pulledOf s)
         pulled-of =
-            let p = place-passed (s .kind) (anyAtZero (readsOf s)) (s .base) (chunksOf s) (s .buffer) zero-number in
-            k .all ∙ rw (k .runs, k .zero) (pulled-all (s .kind) (s .base) (readsOf s) (p .fits) (p .stand) (sym base-of ∙ based))
+            ap (λ (x : Sums). x .«all_length») summed ∙ sym (read-total (readsOf s)) ∙ pulled-all (s .kind) (s .base) (readsOf s) (passed .fits) (passed .stand) (sym base-of ∙ based)
 
-        pub over-taken : c .«all_length» < s .taken → fitsState s room ≡ false
+        pub over-taken : sums .«all_length» < s .taken → fitsState s room ≡ false
         unfolding canArise
         over-taken h = simp (le-leb _ _ few, eq-eqb _ _ rise, zero-number, eq-eqb _ _ (sym base-of ∙ based), lt-leb _ _ (rw pulled-of at h))
 
-        pub fit : s .taken ≤ length (pulledOf s) → fitsState s room ≡ true
+        fit : s .taken ≤ length (pulledOf s) → fitsState s room ≡ true
         unfolding canArise
         fit h = simp (le-leb _ _ few, eq-eqb _ _ rise, zero-number, eq-eqb _ _ (sym base-of ∙ based), le-leb _ _ h, eq-eqb _ _ same)
 
-        pub fit-judges : (r : Judged) (message : ℕ) → message ≡ messageLength (s .base) (found c) → s .taken ≤ c .«all_length» →
-            r ≡ record { runs = c .runs; count = c .count; message = message; pulled = c .«all_length»; fits = true } → Judges s room r
-        fit-judges r message m h e =
-            let p = place-passed (s .kind) (anyAtZero (readsOf s)) (s .base) (chunksOf s) (s .buffer) zero-number in
+        pub fit-judges : (r : Judged) → s .taken ≤ sums .«all_length» → r ≡ record { message = m .message; pulled = sums .«all_length»; fits = true } → Judges s room r
+        fit-judges r h e =
+            let p = passed in
             let holds = p .holds in
+            let long = p .long in
             rw e
             (record {
               fits = sym (fit (rw pulled-of at h));
               known = λ q. record {
-                count = k .count;
-                runs = k .runs;
-                laid = record { bounded = rw (k .runs) at (k .bounded); stand = p .stand; small = small-base };
-                message = rw (k .runs) at m;
+                count = few;
+                laid = record { rise = rise; stand = p .stand; small = omega arith };
+                message = measured-message (s .kind) (s .base) (sums .«any_zero») (chunksOf s) room m measured placed;
                 holds = omega arith;
                 places = pulled-places (s .kind) (anyAtZero (readsOf s)) (s .base) (chunksOf s) (p .fits);
                 pulled = pulled-of;

@@ -23,10 +23,10 @@ use Rattle.header.specs.declared.Shape.{Shape}
 use Rattle.header.proofs.Lies.{Found, bounds, stored-padded, payload-lies}
 use Rattle.header.proofs.Ends.{nomsg-ends}
 use Rattle.layout.specs.Places.{put}
-use Rattle.layout.specs.Layout.{kindFits, anyAtZero, zeroLength, otherChunks, baseLength, stands, messageLength, placeNumber, places, basePlaces, paddingPlaces}
-use Rattle.layout.specs.Walks.{found, ChunksOf, measuredOf}
+use Rattle.layout.specs.Layout.{kindFits, zeroLength, otherChunks, baseLength, stands, messageLength, placeNumber, places, basePlaces, paddingPlaces}
+use Rattle.layout.specs.Walks.{sumsOf, measuredOf}
 use Rattle.layout.specs.declared.Run.{Run}
-use Rattle.layout.specs.declared.Chunks.{Chunks}
+use Rattle.layout.specs.declared.Sums.{Sums}
 use Rattle.layout.specs.declared.Measured.{Measured}
 use Rattle.layout.proofs.Putting.{put-first}
 use Rattle.placing.specs.Sources.{Laid, sourcePlaces}
@@ -41,12 +41,11 @@ zero-or message n true e = sym (eqb-true n 0 e)
 zero-or message n false e = refl
 
 -- The number that measuring gives.
-pub measured-number : (kind : Kind) (base : ℕ) (c : Chunks) (room : ℕ) → measuredOf kind base c room .number ≡ placeNumber kind (c .«any_zero») base (found c) room
+pub measured-number : (kind : Kind) (base : ℕ) (atZero : Bool) (cs : List Run) (room : ℕ) (m : Measured) → m ≡ measuredOf kind base atZero cs room → m .number ≡ placeNumber kind atZero base cs room
 unfolding measuredOf
-measured-number kind base c room = by (placeNumber kind (c .«any_zero») base (found c) room)
-  where
-    by : (n : ℕ) → cond {A = Measured} (eqb n 0) (record { number = 0; message = messageLength base (found c) }) (record { number = n; message = 0 }) .number ≡ n
-    by n = zero-or (messageLength base (found c)) n (eqb n 0) refl
+measured-number kind base atZero cs room m e =
+    let n = placeNumber kind atZero base cs room in
+    ap (λ (x : Measured). x .number) e ∙ zero-or (messageLength base cs) n (eqb n 0) refl
 
 message-or : (message n : ℕ) (b : Bool) → eqb n 0 ≡ b → cond {A = Measured} b (record { number = 0; message = message }) (record { number = n; message = 0 }) .number ≡ 0 →
     cond {A = Measured} b (record { number = 0; message = message }) (record { number = n; message = 0 }) .message ≡ message
@@ -54,11 +53,11 @@ message-or message n true e z = refl
 message-or message n false e z = absurd (eqb-false n 0 e z)
 
 -- With the number 0 it gives the length of the message.
-pub measured-message : (kind : Kind) (base : ℕ) (c : Chunks) (room : ℕ) (m : Measured) → m ≡ measuredOf kind base c room → m .number ≡ 0 → m .message ≡ messageLength base (found c)
+pub measured-message : (kind : Kind) (base : ℕ) (atZero : Bool) (cs : List Run) (room : ℕ) (m : Measured) → m ≡ measuredOf kind base atZero cs room → m .number ≡ 0 → m .message ≡ messageLength base cs
 unfolding measuredOf
-measured-message kind base c room m e z =
-    let n = placeNumber kind (c .«any_zero») base (found c) room in
-    ap (λ (x : Measured). x .message) e ∙ message-or (messageLength base (found c)) n (eqb n 0) refl (sym (ap (λ (x : Measured). x .number) e) ∙ z)
+measured-message kind base atZero cs room m e z =
+    let n = placeNumber kind atZero base cs room in
+    ap (λ (x : Measured). x .message) e ∙ message-or (messageLength base cs) n (eqb n 0) refl (sym (ap (λ (x : Measured). x .number) e) ∙ z)
 
 -- What a number 0 says of the chunks.
 pub record Passed (kind : Kind) (atZero : Bool) (base : ℕ) (cs : List Run) (room : ℕ) : Type 0 where
@@ -118,52 +117,55 @@ module _ (s : List ℕ) (shape : Shape) (f : Found s shape) (segs : List ReadSeg
   inline-length : length s - shape .end ≡ length (f .behind)
   inline-length = sym (length-drop (shape .end) s) ∙ ap length inline-is
 
-  module _ (c : Chunks) (k : ChunksOf (take (shape .reads) segs) c) (base : ℕ) (b : base ≡ judgedBase (shape .kind) (length s - shape .end) (c .«zero_length»)) (room : ℕ) where
+  abbrev chunks : List Run
+  chunks = otherChunks (take (shape .reads) segs)
+
+  module _ (sums : Sums) (summed : sums ≡ sumsOf (take (shape .reads) segs)) (base : ℕ) (b : base ≡ judgedBase (shape .kind) (length s - shape .end) (sums .«zero_length»)) (room : ℕ) (m : Measured) (measured : m ≡ measuredOf (shape .kind) base (sums .«any_zero») chunks room) where
+    sums-are : sums ≡ sumsOf (content .reads)
+    sums-are = summed ∙ ap sumsOf reads-are
+
     base-is : base ≡ baseOf content (f .behind)
     base-is =
-        b ∙ ap (λ (x : Kind). judgedBase x (length s - shape .end) (c .«zero_length»)) kind-is
-        ∙ ap (λ (n : ℕ). judgedBase (content .kind) n (c .«zero_length»)) inline-length
-        ∙ base-same (content .kind) (length (f .behind)) (c .«zero_length») (content .reads) (k .zero ∙ ap zeroLength reads-are)
+        b ∙ ap (λ (x : Kind). judgedBase x (length s - shape .end) (sums .«zero_length»)) kind-is
+        ∙ ap (λ (n : ℕ). judgedBase (content .kind) n (sums .«zero_length»)) inline-length
+        ∙ base-same (content .kind) (length (f .behind)) (sums .«zero_length») (content .reads) (ap (λ (x : Sums). x .«zero_length») sums-are)
 
-    pub number-is : placeNumber (shape .kind) (c .«any_zero») base (found c) room ≡ startNumber (readFrame s) room
+    number-of : m .number ≡ placeNumber (shape .kind) (sums .«any_zero») base chunks room
+    number-of = measured-number (shape .kind) base (sums .«any_zero») chunks room m measured
+
+    number-is : m .number ≡ startNumber (readFrame s) room
     unfolding startNumber
     number-is =
-        let any = k .any ∙ ap anyAtZero reads-are in
-        let runs = k .runs ∙ ap otherChunks reads-are in
-        ap (λ (x : Kind). placeNumber x (c .«any_zero») base (found c) room) kind-is
-        ∙ ap (λ (x : Bool). placeNumber (content .kind) x base (found c) room) any
-        ∙ ap (λ (x : ℕ). placeNumber (content .kind) (anyAtZero (content .reads)) x (found c) room) base-is
-        ∙ ap (λ (x : List Run). placeNumber (content .kind) (anyAtZero (content .reads)) (baseOf content (f .behind)) x room) runs
+        number-of
+        ∙ (λ i. placeNumber (kind-is i) (sums-are i .«any_zero») (base-is i) (otherChunks (reads-are i)) room)
         ∙ ap (λ (p : Parsed Content). startNumber p room) (sym (f .read))
 
-    pub not-started-is : (n : ℕ) → n ≡ startNumber (readFrame s) room → (n ≡ 0 → ⊥) → (out : List ℕ) → length out ≡ room →
-        (record { state = noState; number = n } ≡ startAnswer (readFrame s) room) × (out ≡ startInto (readFrame s) out)
+    pub not-started-is : (m .number ≡ 0 → ⊥) → (out : List ℕ) → length out ≡ room →
+        (record { state = noState; number = m .number } ≡ startAnswer (readFrame s) room) × (out ≡ startInto (readFrame s) out)
     unfolding startAnswer startInto
-    not-started-is n e some out l = simp (l, ← e, ne-eqb n 0 some) (refl, refl)
+    not-started-is some out l = simp (l, ← number-is, ne-eqb (m .number) 0 some) (refl, refl)
 
-    -- What holds where a start is accepted.
-    pub start-laid : placeNumber (shape .kind) (c .«any_zero») base (found c) room ≡ 0 →
-        Laid base (found c) × (messageLength base (found c) ≤ room) × (length s ≤ shape .end + base)
-    start-laid e =
-        let p = place-passed (shape .kind) (c .«any_zero») base (found c) room e in
-        let within = inline-within (content .kind) (c .«any_zero») (f .behind) (content .reads) (subst (λ (x : Kind). kindFits x (c .«any_zero») ≡ true) kind-is (p .fits)) (nomsg-ends s content (f .behind) (f .read)) in
-        let long = p .long in
-        let same = base-is in
-        let inline = inline-length in
-        (record { bounded = k .bounded; stand = p .stand; small = omega arith }, p .holds, omega arith)
+    module _ (passes : m .number ≡ 0) where
+      -- What holds where a start is accepted.
+      pub start-laid : Laid base (take (shape .reads) segs) × (messageLength base chunks ≤ room) × (length s ≤ shape .end + base)
+      start-laid =
+          let p = place-passed (shape .kind) (sums .«any_zero») base chunks room (sym number-of ∙ passes) in
+          let within = inline-within (content .kind) (sums .«any_zero») (f .behind) (content .reads) (subst (λ (x : Kind). kindFits x (sums .«any_zero») ≡ true) kind-is (p .fits)) (nomsg-ends s content (f .behind) (f .read)) in
+          let long = p .long in
+          let same = base-is in
+          let inline = inline-length in
+          (record { rise = chunks-ready .1; stand = p .stand; small = omega arith }, p .holds, omega arith)
 
-    pub started-is : placeNumber (shape .kind) (c .«any_zero») base (found c) room ≡ 0 → (out after : List ℕ) → length out ≡ room → after ≡ laid base (found c) (drop (shape .end) s) out →
-        (record { state = record { reads = record { segments = segs; count = shape .reads }; kind = shape .kind; base = base; buffer = room; taken = 0 }; number = 0 } ≡ startAnswer (readFrame s) room)
-        × (after ≡ startInto (readFrame s) out)
-    unfolding startAnswer startInto
-    started-is e out after l w =
-        let passed : startNumber (done content (f .behind)) room ≡ 0 = ap (λ (p : Parsed Content). startNumber p room) (sym (f .read)) ∙ sym number-is ∙ e in
-        let state : record { reads = record { segments = segs; count = shape .reads }; kind = shape .kind; base = base; buffer = room; taken = 0 } ≡ startState (done content (f .behind)) room =
-        (λ i. record { reads = record { segments = segs-are i; count = count-is i }; kind = kind-is i; base = base-is i; buffer = room; taken = 0 }) in
-        let buffer : laid base (found c) (drop (shape .end) s) out ≡ startedInto (done content (f .behind)) out =
-        ap (λ (x : List ℕ). laid base (found c) x out) inline-is ∙ ap (λ (x : ℕ). laid x (found c) (f .behind) out) base-is
-        ∙ ap (λ (x : List Run). laid (baseOf content (f .behind)) x (f .behind) out) (k .runs ∙ ap otherChunks reads-are) in
-        simp (l, f .read, passed) (ap (λ (x : State). record { state = x; number = 0 }) state, w ∙ buffer)
+      pub started-is : (out after : List ℕ) → length out ≡ room → after ≡ laid base chunks (drop (shape .end) s) out →
+          (record { state = record { reads = record { segments = segs; count = shape .reads }; kind = shape .kind; base = base; buffer = room; taken = 0 }; number = 0 } ≡ startAnswer (readFrame s) room)
+          × (after ≡ startInto (readFrame s) out)
+      unfolding startAnswer startInto
+      started-is out after l w =
+          let passed : startNumber (done content (f .behind)) room ≡ 0 = ap (λ (p : Parsed Content). startNumber p room) (sym (f .read)) ∙ sym number-is ∙ passes in
+          let state : record { reads = record { segments = segs; count = shape .reads }; kind = shape .kind; base = base; buffer = room; taken = 0 } ≡ startState (done content (f .behind)) room =
+          (λ i. record { reads = record { segments = segs-are i; count = count-is i }; kind = kind-is i; base = base-is i; buffer = room; taken = 0 }) in
+          let buffer : laid base chunks (drop (shape .end) s) out ≡ startedInto (done content (f .behind)) out = (λ i. laid (base-is i) (otherChunks (reads-are i)) (inline-is i) out) in
+          simp (l, f .read, passed) (ap (λ (x : State). record { state = x; number = 0 }) state, w ∙ buffer)
 
 -- A frame that the reader refuses.
 pub refused-is : (s : List ℕ) (n room : ℕ) (out : List ℕ) → readFrame s ≡ refused n → (record { state = noState; number = n } ≡ startAnswer (readFrame s) room) × (out ≡ startInto (readFrame s) out)

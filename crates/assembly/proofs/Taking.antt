@@ -9,7 +9,7 @@ use lib.ListN.{length, take, drop}
 use lib.Dec.{eqb}
 use Rattle.layout.specs.Places.{put}
 use Rattle.layout.specs.Layout.{messageLength}
-use Rattle.placing.specs.Sources.{Laid, sourcePlaces}
+use Rattle.placing.specs.Sources.{sourcePlaces}
 use Rattle.assembly.specs.Assembly.{chunksOf, pulledOf, fitsState, takeNumber, tookMore, takeAnswer, takenInto, askNumber, askPart}
 use Rattle.assembly.specs.Judged.{isNomsg, Known, takenAnswer}
 use Rattle.assembly.specs.declared.State.{State}
@@ -17,12 +17,8 @@ use Rattle.assembly.specs.declared.Judged.{Judged}
 use Rattle.assembly.specs.declared.PieceAnswer.{PieceAnswer}
 
 -- The places that are filled are the pulled ones.
-pub known-places : (s : State) (room : ℕ) (r : Judged) (b : Bool) → Known s room r → b ≡ isNomsg (s .kind) → sourcePlaces b (s .base) (take (r .count) (r .runs)) ≡ pulledOf s
-known-places s room r b k e = rw (e, k .runs) (sym (k .places))
-
-pub known-ready : (s : State) (room size : ℕ) (r : Judged) (b : Bool) → Known s room r → b ≡ isNomsg (s .kind) → s .taken + size ≤ length (pulledOf s) →
-    (r .count ≤ 16) × Laid (s .base) (take (r .count) (r .runs)) × (messageLength (s .base) (take (r .count) (r .runs)) ≤ room) × (s .taken + size ≤ length (sourcePlaces b (s .base) (take (r .count) (r .runs))))
-known-ready s room size r b k e h = (k .count, rw (k .runs) (k .laid), rw (k .runs) (k .holds), rw (known-places s room r b k e) h)
+pub known-places : (s : State) (room : ℕ) (r : Judged) (b : Bool) → Known s room r → b ≡ isNomsg (s .kind) → sourcePlaces b (s .base) (chunksOf s) ≡ pulledOf s
+known-places s room r b k e = rw e (sym (k .places))
 
 abbrev withCount : State → ℕ → State
 withCount s taken = record { reads = s .reads; kind = s .kind; base = s .base; buffer = s .buffer; taken = taken }

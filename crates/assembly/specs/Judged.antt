@@ -2,10 +2,10 @@
 use Prim.Native.Nat.{ℕ, _≤_}
 use mathlib.Core.Path.{_≡_}
 use mathlib.Core.Bool.{Bool, true, false}
-use lib.ListN.{length, take}
+use lib.ListN.{length}
 use Rattle.layout.specs.Layout.{messageLength}
 use Rattle.placing.specs.Sources.{Laid, sourcePlaces}
-use Rattle.assembly.specs.Assembly.{chunksOf, pulledOf, fitsState, takeAnswer}
+use Rattle.assembly.specs.Assembly.{readsOf, chunksOf, pulledOf, fitsState, takeAnswer}
 use Rattle.assembly.specs.declared.State.{State}
 use Rattle.assembly.specs.declared.Judged.{Judged}
 use Rattle.assembly.specs.declared.Taken.{Taken}
@@ -25,9 +25,8 @@ isNomsg (Error e) = false
 
 -- What is known of a state that fits.
 pub record Known (s : State) (room : ℕ) (r : Judged) : Type 0 where
-  pub count : r .count ≤ 16
-  pub runs : take (r .count) (r .runs) ≡ chunksOf s
-  pub laid : Laid (s .base) (chunksOf s)
+  pub count : s .reads .count ≤ 16
+  pub laid : Laid (s .base) (readsOf s)
   pub message : r .message ≡ messageLength (s .base) (chunksOf s)
   pub holds : messageLength (s .base) (chunksOf s) ≤ room
   pub places : pulledOf s ≡ sourcePlaces (isNomsg (s .kind)) (s .base) (chunksOf s)

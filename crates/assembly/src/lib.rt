@@ -2,18 +2,15 @@
 // take_piece, ask, message.
 use header::FrameWalk;
 use header::Kind;
-use layout::Chunks;
-use layout::Run;
 use lists::ReadList;
 use wire::ReadSegment;
 use wire::Segment;
 ghost use mathlib.Core.Path.{_≡_};
 ghost use Prim.Native.Nat.{_+_, _≤_};
 ghost use mathlib.Core.Bool.{true, false};
-ghost use lib.ListN.{length, drop, replicate};
+ghost use lib.ListN.{length, take, drop};
 ghost use Rattle.header.specs.Frame.{readFrame};
-ghost use Rattle.layout.specs.Layout.{run, messageLength};
-ghost use Rattle.layout.specs.Walks.{found};
+ghost use Rattle.layout.specs.Layout.{otherChunks, messageLength};
 ghost use Rattle.placing.specs.Sources.{Laid};
 ghost use Rattle.assembly.specs.Assembly.{noState, laid, startAnswer, startInto, takeAnswer, takenInto, askNumber, askPart};
 ghost use Rattle.assembly.specs.Judged.{judgedBase, isNomsg, Judges, takenAnswer};
@@ -55,8 +52,6 @@ pub struct Taken {
 
 // What the checks of a state find.
 pub struct Judged {
-    pub runs: [Run; 16],
-    pub count: usize,
     pub message: usize,
     pub pulled: usize,
     pub fits: bool,
@@ -102,14 +97,12 @@ fn not_started(number: u32) -> StartAnswer
 }
 
 // Writes what a start writes: an inline base, and all padding.
-fn lay(frame: &[u8], end: usize, c: Chunks, base: usize, out: &mut [u8])
-    requires { ⌜ (c .count ≤ 16) × Laid base (found c) × (messageLength base (found c) ≤ length (now out)) × (end ≤ length (now frame)) × (length (now frame) ≤ end + base) ⌝ }
-    ensures { λ _. ⌜ now (out .exit) ≡ laid base (found c) (drop end (now (frame .entry))) (now (out .entry)) ⌝ }
+fn lay(frame: &[u8], end: usize, segments: [ReadSegment; 16], n: usize, base: usize, out: &mut [u8])
+    requires { ⌜ (n ≤ 16) × Laid base (take n segments) × (messageLength base (otherChunks (take n segments)) ≤ length (now out)) × (end ≤ length (now frame)) × (length (now frame) ≤ end + base) ⌝ }
+    ensures { λ _. ⌜ now (out .exit) ≡ laid base (otherChunks (take n segments)) (drop end (now (frame .entry))) (now (out .entry)) ⌝ }
 {
-    let runs = c.runs;
-    let n = c.count;
-    placing::place(out, &frame[end..], runs, n, base, true, 0);
-    placing::clear_paddings(out, runs, n, base);
+    placing::place(out, &frame[end..], segments, n, base, true, 0);
+    placing::clear_paddings(out, segments, n, base);
 }
 
 // Starts the reassembly of a call.
@@ -126,13 +119,13 @@ pub fn start(frame: &[u8], out: &mut [u8]) -> StartAnswer
     let n = shape.reads;
     let end = shape.end;
     let segments = lists::fill_reads(&frame[header::FIXED_BYTES..], n);
-    let c = layout::chunks_of(segments, n);
-    let base = base_length(kind, frame.len() - end, c.zero_length);
-    let measured = layout::measure(kind, base, c, room);
+    let sums = layout::sums_of(segments, n);
+    let base = base_length(kind, frame.len() - end, sums.zero_length);
+    let measured = layout::measure(kind, base, sums.any_zero, segments, n, room);
     if measured.number != 0 {
         return not_started(measured.number);
     }
-    lay(frame, end, c, base, out);
+    lay(frame, end, segments, n, base, out);
     StartAnswer {
         state: State {
             reads: ReadList {
@@ -160,12 +153,9 @@ fn is_nomsg(kind: Kind) -> bool
 
 // A state that does not fit.
 fn unfit() -> Judged
-    ensures { λ r. ⌜ r ≡ record { runs = replicate 16 (run 0 0); count = 0; message = 0; pulled = 0; fits = false } ⌝ }
+    ensures { λ r. ⌜ r ≡ record { message = 0; pulled = 0; fits = false } ⌝ }
 {
-    let z = Run { at: 0, length: 0 };
     Judged {
-        runs: [z; 16],
-        count: 0,
         message: 0,
         pulled: 0,
         fits: false,
@@ -189,24 +179,21 @@ fn judge(s: State, room: usize) -> Judged
     if s.buffer != room {
         return unfit();
     }
-    let c = layout::chunks_of(segments, n);
     let base = s.base;
-    let measured = layout::measure(kind, base, c, room);
+    let sums = layout::sums_of(segments, n);
+    let measured = layout::measure(kind, base, sums.any_zero, segments, n, room);
     if measured.number != 0 {
         return unfit();
     }
-    if base_length(kind, base, c.zero_length) != base {
+    if base_length(kind, base, sums.zero_length) != base {
         return unfit();
     }
-    if c.all_length < s.taken {
+    if sums.all_length < s.taken {
         return unfit();
     }
-    let runs = c.runs;
     Judged {
-        runs,
-        count: c.count,
         message: measured.message,
-        pulled: c.all_length,
+        pulled: sums.all_length,
         fits: true,
     }
 }
@@ -230,9 +217,11 @@ pub fn put_piece(s: State, piece: &[u8], out: &mut [u8]) -> Taken
             number: PIECE_LONG,
         };
     }
-    let runs = j.runs;
+    let reads = s.reads;
+    let segments = reads.segments;
+    let n = reads.count as usize;
     let kind = s.kind;
-    placing::place(out, piece, runs, j.count, s.base, is_nomsg(kind), s.taken);
+    placing::place(out, piece, segments, n, s.base, is_nomsg(kind), s.taken);
     Taken {
         taken: s.taken + size,
         number: 0,

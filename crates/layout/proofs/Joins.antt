@@ -1,14 +1,15 @@
 -- Laws about chunks: how bytes at a position join them, in whatever order they come.
 -- Assumes nothing.
-use mathlib.Core.Path.{_≡_, refl, sym, _∙_}
+use mathlib.Core.Path.{_≡_, refl}
 use mathlib.Core.Bool.{Bool, true, false}
 use mathlib.Core.List.{List, [], _∷_}
 use Prim.Native.Nat.{ℕ, _+_, _≤_, _<_}
-use native.Mathlib.Nat.{add-assoc, add-comm, le-refl}
+use native.Mathlib.Nat.{add-assoc, le-refl}
 use native.Mathlib.Omega.{arith}
 use lib.Dec.{ltb, eqb}
 use borrow.Author.Tests.{ltb-true, ltb-false, eqb-true, eqb-false, lt-ltb, le-ltb, eq-eqb, ne-eqb}
 use Rattle.layout.specs.Layout.{run, joinChunk, totalLength}
+use Rattle.layout.specs.Walks.{Above}
 use Rattle.layout.specs.declared.Run.{Run}
 
 -- How two numbers lie.
@@ -49,32 +50,6 @@ join-join p l m (c ∷ cs) = by (order p (c .at)) (join-join p l m cs)
     by (same e) ih = rw (join-same p m c cs e, join-same p (l + m) c cs e, join-same p l (run (c .at) (m + c .length)) cs e, add-assoc)
     by (more h) ih = rw (join-more p m c cs h, join-more p (l + m) c cs h, join-more p l c (joinChunk p m cs) h, ih)
 
--- Bytes may join in any order.
-join-apart : (p l q m : ℕ) (cs : List Run) → p < q → joinChunk p l (joinChunk q m cs) ≡ joinChunk q m (joinChunk p l cs)
-unfolding joinChunk
-join-apart p l q m [] h = join-less p l (run q m) [] h ∙ sym (join-more q m (run p l) [] h)
-join-apart p l q m (c ∷ cs) h = by (order p (c .at)) (order q (c .at)) (join-apart p l q m cs h)
-  where
-    by : Order p (c .at) → Order q (c .at) → joinChunk p l (joinChunk q m cs) ≡ joinChunk q m (joinChunk p l cs) →
-        joinChunk p l (joinChunk q m (c ∷ cs)) ≡ joinChunk q m (joinChunk p l (c ∷ cs))
-    by (less a) (less b) ih = rw (join-less q m c cs b, join-less p l (run q m) _ h, join-less p l c cs a, join-more q m (run p l) _ h, join-less q m c cs b)
-    by (less a) (same b) ih = rw (join-same q m c cs b, join-less p l (run (c .at) (m + c .length)) cs a, join-less p l c cs a, join-more q m (run p l) _ h, join-same q m c cs b)
-    by (less a) (more b) ih = rw (join-more q m c cs b, join-less p l c _ a, join-less p l c cs a, join-more q m (run p l) _ h, join-more q m c cs b)
-    by (same a) (less b) ih = absurd (omega arith)
-    by (same a) (same b) ih = absurd (omega arith)
-    by (same a) (more b) ih = rw (join-more q m c cs b, join-same p l c _ a, join-same p l c cs a, join-more q m (run (c .at) (l + c .length)) cs b)
-    by (more a) (less b) ih = absurd (omega arith)
-    by (more a) (same b) ih = absurd (omega arith)
-    by (more a) (more b) ih = rw (join-more q m c cs b, join-more p l c _ a, join-more p l c cs a, join-more q m c _ b, ih)
-
-pub join-comm : (p l q m : ℕ) (cs : List Run) → joinChunk p l (joinChunk q m cs) ≡ joinChunk q m (joinChunk p l cs)
-join-comm p l q m cs = by (order p q)
-  where
-    by : Order p q → joinChunk p l (joinChunk q m cs) ≡ joinChunk q m (joinChunk p l cs)
-    by (less h) = join-apart p l q m cs h
-    by (same e) = rw (e, join-join q l m cs, join-join q m l cs, add-comm l m)
-    by (more h) = sym (join-apart q m p l cs h)
-
 -- Together they have as many bytes as before and those that joined.
 pub total-join : (p l : ℕ) (cs : List Run) → totalLength (joinChunk p l cs) ≡ l + totalLength cs
 unfolding totalLength joinChunk
@@ -85,3 +60,20 @@ total-join p l (c ∷ cs) = by (order p (c .at)) (total-join p l cs)
     by (less h) ih = rw (join-less p l c cs h)
     by (same e) ih = rw (join-same p l c cs e, add-assoc)
     by (more h) ih = rw (join-more p l c cs h, ih) (omega arith)
+
+-- Bytes before all chunks are the first chunk.
+pub join-first : (p l : ℕ) (cs : List Run) → Above p cs → joinChunk p l cs ≡ run p l ∷ cs
+unfolding joinChunk Above
+join-first p l [] a = refl
+join-first p l (c ∷ cs) a = join-less p l c cs (a .0)
+
+-- Bytes behind a position stay behind it.
+pub above-join : (q p l : ℕ) (cs : List Run) → q < p → Above q cs → Above q (joinChunk p l cs)
+unfolding Above joinChunk
+above-join q p l [] h a = (h, tt)
+above-join q p l (c ∷ cs) h a = by (order p (c .at)) (above-join q p l cs h (a .1))
+  where
+    by : Order p (c .at) → Above q (joinChunk p l cs) → Above q (joinChunk p l (c ∷ cs))
+    by (less b) ih = rw (join-less p l c cs b) (h, a)
+    by (same b) ih = rw (join-same p l c cs b) a
+    by (more b) ih = rw (join-more p l c cs b) (a .0, ih)

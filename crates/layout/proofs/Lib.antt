@@ -1,7 +1,6 @@
 pub mod Joins
-pub mod Rising
-pub mod Held
-pub mod Walked
+pub mod Summing
+pub mod Remaining
 pub mod Stood
 pub mod Putting
 pub mod Seeking

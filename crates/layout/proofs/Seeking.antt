@@ -1,21 +1,22 @@
--- The walk over runs that finds the one which a byte begins.
+-- The walk over a read list that finds the run which a byte begins.
 -- Assumes nothing.
-use mathlib.Core.Path.{_≡_, refl, sym, ap, subst, _∙_}
+use mathlib.Core.Path.{_≡_, sym, ap, subst, _∙_}
 use mathlib.Core.Bool.{true}
 use mathlib.Core.List.{List, [], _∷_, _++_}
 use Prim.Native.Nat.{ℕ, _+_, _-_, _≤_, _<_}
 use native.Mathlib.Nat.{add-zero}
-use native.Mathlib.Numerals.{add-one}
 use native.Mathlib.Omega.{arith}
-use lib.ListN.{length, drop, getD}
-use lib.Seq.{drop-cons, drop-length}
+use lib.ListN.{drop}
 use lib.Dec.{leb}
 use borrow.Author.Tests.{leb-true}
+use Rattle.wire.specs.declared.ReadSegment.{ReadSegment}
 use Rattle.wire.proofs.Laws.{both-hold}
 use Rattle.layout.specs.Places.{from}
-use Rattle.layout.specs.Layout.{run, roundedUp, roundedTotal, totalLength, stands, places, gaps, basePlaces, messageLength}
-use Rattle.layout.specs.Walks.{Seeks}
+use Rattle.layout.specs.Layout.{run, otherChunks, roundedUp, roundedTotal, totalLength, stands, places, gaps, basePlaces, messageLength}
+use Rattle.layout.specs.Walks.{joinedRun, endedLength, remaining, Seeks}
 use Rattle.layout.specs.declared.Run.{Run}
+use Rattle.layout.proofs.Remaining.{Walk, Headed, Step, goes, opens, ends, step, at-position, at-first, Last, nothing, itself, last}
+use Rattle.layout.proofs.Stood.{rounded-none}
 use Rattle.layout.proofs.Putting.{drop-within, drop-past}
 
 -- The places behind k of `all` are those of rs behind `left`.
@@ -41,99 +42,144 @@ seek-next all k r rs left h o x =
     let e : left + x ≡ r .length + (left - r .length + x) = omega arith in
     o x ∙ rw e (drop-past (left - r .length + x) (r .at) (r .length) (places rs))
 
--- Behind i of the chunks: how many bytes are left to go.
-pub record ChunkSought (cs : List Run) (k left i : ℕ) : Type 0 where
-  pub some : left < totalLength (drop i cs)
-  pub onward : Onward (places cs) k (drop i cs) left
-  pub most : left ≤ k
+-- With the chunk w at hand: how many bytes are left to go.
+pub record ChunkSought (cs : List Run) (k left : ℕ) (w : Run) (xs : List ReadSegment) : Type 0 where
+  pub some : left < totalLength (remaining w xs)
+  pub onward : Onward (places cs) k (remaining w xs) left
 
-pub chunk-start : (cs : List Run) (k : ℕ) → k < totalLength cs → ChunkSought cs k k 0
+pub chunk-start : (xs : List ReadSegment) (k : ℕ) → k < totalLength (otherChunks xs) → ChunkSought (otherChunks xs) k k (run 0 0) xs
 unfolding Onward
-chunk-start cs k h = record { some = h; onward = λ x. refl; most = omega arith }
+chunk-start xs k h = record { some = rw (at-first xs) h; onward = λ x. rw (at-first xs) }
 
-module _ (cs : List Run) (k left i : ℕ) (h : i < length cs) (w : ChunkSought cs k left i) where
-  abbrev here : Run
-  here = getD cs i (run 0 0)
+module _ (cs : List Run) (k left : ℕ) (w : Run) (x : ReadSegment) (xs : List ReadSegment) (walk : Walk w (x ∷ xs)) (s : ChunkSought cs k left w (x ∷ xs)) where
+  pub chunk-here : left < endedLength w x → Seeks (places cs) k (run (w .at + left) (endedLength w x - left))
+  chunk-here lt = by (step w x xs walk)
+    where
+      by : Step w x xs → Seeks (places cs) k (run (w .at + left) (endedLength w x - left))
+      by (goes here z is) = absurd (omega arith)
+      by (opens first z is h) = absurd (omega arith)
+      by (ends z is h) = rw z (seek-here (places cs) k w (remaining (joinedRun w x) xs) left (omega arith) (rw is at (s .onward)))
 
-  rest : drop i cs ≡ here ∷ drop (i + 1) cs
-  rest = rw add-one (drop-cons cs i (run 0 0) h)
+  stays : endedLength w x ≡ 0 → remaining w (x ∷ xs) ≡ remaining (joinedRun w x) xs → ChunkSought cs k (left - endedLength w x) (joinedRun w x) xs
+  stays z is =
+      let same : left - endedLength w x ≡ left = omega arith in
+      rw same (record { some = rw (← is) (s .some); onward = rw (← is) (s .onward) })
 
-  pub chunk-here : left < here .length → Seeks (places cs) k (run (here .at + left) (here .length - left))
-  chunk-here lt = seek-here (places cs) k here (drop (i + 1) cs) left lt (rw rest at (w .onward))
-
-  pub chunk-next : here .length ≤ left → ChunkSought cs k (left - here .length) (i + 1)
+  pub chunk-next : endedLength w x ≤ left → ChunkSought cs k (left - endedLength w x) (joinedRun w x) xs
   unfolding totalLength
-  chunk-next le =
-      let total = rw rest at (w .some) in
-      let most = w .most in
-      record { some = omega arith; onward = seek-next (places cs) k here (drop (i + 1) cs) left le (rw rest at (w .onward)); most = omega arith }
+  chunk-next le = by (step w x xs walk)
+    where
+      by : Step w x xs → ChunkSought cs k (left - endedLength w x) (joinedRun w x) xs
+      by (goes here z is) = stays z is
+      by (opens first z is h) = stays z is
+      by (ends z is h) =
+          let total : left < w .length + totalLength (remaining (joinedRun w x) xs) = rw is at (s .some) in
+          rw z (record { some = omega arith; onward = seek-next (places cs) k w (remaining (joinedRun w x) xs) left (omega arith) (rw is at (s .onward)) })
 
-pub chunk-not-there : (cs : List Run) (k left i : ℕ) → i ≡ length cs → ChunkSought cs k left i → ⊥
+pub chunk-last : (cs : List Run) (k left : ℕ) (w : Run) → Walk w [] → ChunkSought cs k left w [] → (left < w .length) × Seeks (places cs) k (run (w .at + left) (w .length - left))
 unfolding totalLength
-chunk-not-there cs k left i e w =
-    let none : drop i cs ≡ [] = rw e (drop-length cs) in
-    let some = rw none at (w .some) in
-    omega arith
+chunk-last cs k left w walk s = by (last w walk)
+  where
+    by : Last w → (left < w .length) × Seeks (places cs) k (run (w .at + left) (w .length - left))
+    by (nothing z is) = absurd (let some = rw is at (s .some) in omega arith)
+    by (itself is) =
+        let some : left < w .length + 0 = rw is at (s .some) in
+        (omega arith, seek-here (places cs) k w [] left (omega arith) (rw is at (s .onward)))
 
--- Behind i of the chunks: all their rounded lengths, and where the gap behind them starts.
-pub record GapSought (base : ℕ) (cs : List Run) (k earlier i : ℕ) : Type 0 where
-  pub start : ℕ
+-- Before the chunks rs: all rounded lengths of those before, and where the gap before rs starts.
+pub record Gap (base : ℕ) (cs : List Run) (k earlier start : ℕ) (rs : List Run) : Type 0 where
   pub reached : start ≤ k + earlier
-  pub onward : Onward (basePlaces base cs) k (gaps start (messageLength base cs) (drop i cs)) (k + earlier - start)
-  pub sum : earlier + roundedTotal (drop i cs) ≡ roundedTotal cs
-  pub stand : stands base start earlier (drop i cs) ≡ true
-
-pub gap-start : (base : ℕ) (cs : List Run) (k : ℕ) → stands base 0 0 cs ≡ true → GapSought base cs k 0 0
-unfolding Onward basePlaces
-gap-start base cs k s = record { start = 0; reached = omega arith; onward = λ x. (let e : k + 0 - 0 + x ≡ k + x = omega arith in rw e); sum = omega arith; stand = s }
+  pub onward : Onward (basePlaces base cs) k (gaps start (messageLength base cs) rs) (k + earlier - start)
+  pub sum : earlier + roundedTotal rs ≡ roundedTotal cs
+  pub stand : stands base start earlier rs ≡ true
 
 -- A run, said in two ways.
 same-run : (all : List ℕ) (k p q l m : ℕ) → p ≡ q → l ≡ m → Seeks all k (run p l) → Seeks all k (run q m)
 same-run all k p q l m e f s = subst (λ (n : ℕ). Seeks all k (run q n)) f (subst (λ (n : ℕ). Seeks all k (run n l)) e s)
 
-module _ (base : ℕ) (cs : List Run) (k earlier i : ℕ) (h : i < length cs) (w : GapSought base cs k earlier i) where
-  abbrev chunk : Run
-  chunk = getD cs i (run 0 0)
+-- The byte lies in the gap before a chunk at p, or behind the chunk c, or in the gap behind all.
+gap-within : (base : ℕ) (cs : List Run) (k earlier start p : ℕ) (rs : List Run) → Gap base cs k earlier start rs → Headed p rs → k + earlier < p → Seeks (basePlaces base cs) k (run (k + earlier) (p - (k + earlier)))
+unfolding gaps
+gap-within base cs k earlier start p rs g h lt =
+    let reached = g .reached in
+    same-run (basePlaces base cs) k (start + (k + earlier - start)) (k + earlier) (p - start - (k + earlier - start)) (p - (k + earlier)) (omega arith) (omega arith)
+    (seek-here (basePlaces base cs) k _ _ (k + earlier - start) (omega arith) (rw (h .is) at (g .onward)))
 
-  behind : drop i cs ≡ chunk ∷ drop (i + 1) cs
-  behind = rw add-one (drop-cons cs i (run 0 0) h)
+gap-behind : (base : ℕ) (cs : List Run) (k earlier start : ℕ) (c : Run) (rs : List Run) → Gap base cs k earlier start (c ∷ rs) → c .at ≤ k + earlier → Gap base cs k (earlier + roundedUp (c .length)) (c .at + roundedUp (c .length)) rs
+unfolding gaps stands roundedTotal
+gap-behind base cs k earlier start c rs g le =
+    let reached = g .reached in
+    let both = both-hold (leb start (c .at)) _ (g .stand) in
+    let behind-start = leb-true start (c .at) (both .0) in
+    let sum = g .sum in
+    let left : k + earlier - start - (c .at - start) ≡ k + (earlier + roundedUp (c .length)) - (c .at + roundedUp (c .length)) = omega arith in
+    record {
+      reached = omega arith;
+      onward = subst (λ (n : ℕ). Onward (basePlaces base cs) k (gaps (c .at + roundedUp (c .length)) (messageLength base cs) rs) n) left (seek-next (basePlaces base cs) k _ _ (k + earlier - start) (omega arith) (g .onward));
+      sum = omega arith;
+      stand = both-hold (leb (c .at - earlier) base) _ (both .1) .1;
+    }
 
-  open-gap : Onward (basePlaces base cs) k (run (w .start) (chunk .at - w .start) ∷ gaps (chunk .at + roundedUp (chunk .length)) (messageLength base cs) (drop (i + 1) cs)) (k + earlier - w .start)
-  unfolding gaps
-  open-gap = rw behind at (w .onward)
-
-  stood : (leb (w .start) (chunk .at) ≡ true) × (stands base (chunk .at + roundedUp (chunk .length)) (earlier + roundedUp (chunk .length)) (drop (i + 1) cs) ≡ true)
-  unfolding stands
-  stood =
-      let both = both-hold (leb (w .start) (chunk .at)) _ (rw behind at (w .stand)) in
-      (both .0, both-hold (leb (chunk .at - earlier) base) _ (both .1) .1)
-
-  pub gap-here : k + earlier < chunk .at → Seeks (basePlaces base cs) k (run (k + earlier) (chunk .at - (k + earlier)))
-  gap-here lt =
-      let reached = w .reached in
-      same-run (basePlaces base cs) k (w .start + (k + earlier - w .start)) (k + earlier) (chunk .at - w .start - (k + earlier - w .start)) (chunk .at - (k + earlier)) (omega arith) (omega arith)
-      (seek-here (basePlaces base cs) k _ _ (k + earlier - w .start) (omega arith) open-gap)
-
-  pub gap-next : (size : ℕ) → size ≡ roundedUp (chunk .length) → chunk .at ≤ k + earlier → GapSought base cs k (earlier + size) (i + 1)
-  unfolding roundedTotal
-  gap-next size e le =
-      let sum = w .sum in
-      let reached = w .reached in
-      let more : roundedTotal (drop i cs) ≡ roundedUp (chunk .length) + roundedTotal (drop (i + 1) cs) = rw behind in
-      let left : k + earlier - w .start - (chunk .at - w .start) ≡ k + (earlier + size) - (chunk .at + roundedUp (chunk .length)) = (let behind-start = leb-true (w .start) (chunk .at) (stood .0) in omega arith) in
-      record {
-        start = chunk .at + roundedUp (chunk .length);
-        reached = omega arith;
-        onward = subst (λ (n : ℕ). Onward (basePlaces base cs) k (gaps (chunk .at + roundedUp (chunk .length)) (messageLength base cs) (drop (i + 1) cs)) n) left (seek-next (basePlaces base cs) k _ _ (k + earlier - w .start) (omega arith) open-gap);
-        sum = omega arith;
-        stand = rw e (stood .1);
-      }
-
-pub gap-last : (base : ℕ) (cs : List Run) (k earlier i : ℕ) → i ≡ length cs → k < base → GapSought base cs k earlier i → Seeks (basePlaces base cs) k (run (k + earlier) (base - k))
+gap-end : (base : ℕ) (cs : List Run) (k earlier start : ℕ) → k < base → Gap base cs k earlier start [] → Seeks (basePlaces base cs) k (run (k + earlier) (base - k))
 unfolding gaps roundedTotal
-gap-last base cs k earlier i e lt w =
-    let none : drop i cs ≡ [] = rw e (drop-length cs) in
-    let reached = w .reached in
-    let sum = rw none at (w .sum) in
-    same-run (basePlaces base cs) k (w .start + (k + earlier - w .start)) (k + earlier) (messageLength base cs - w .start - (k + earlier - w .start)) (base - k) (omega arith) (omega arith)
-    (seek-here (basePlaces base cs) k _ _ (k + earlier - w .start) (omega arith) (rw none at (w .onward)))
+gap-end base cs k earlier start lt g =
+    let reached = g .reached in
+    let sum = g .sum in
+    same-run (basePlaces base cs) k (start + (k + earlier - start)) (k + earlier) (messageLength base cs - start - (k + earlier - start)) (base - k) (omega arith) (omega arith)
+    (seek-here (basePlaces base cs) k _ _ (k + earlier - start) (omega arith) (g .onward))
+
+-- With the chunk w at hand, which the byte is not before.
+pub record GapSought (base : ℕ) (cs : List Run) (k earlier : ℕ) (w : Run) (xs : List ReadSegment) : Type 0 where
+  pub start : ℕ
+  pub gap : Gap base cs k earlier start (remaining w xs)
+  pub passed : w .at ≤ k + earlier
+
+pub gap-start : (base : ℕ) (xs : List ReadSegment) (k : ℕ) → stands base 0 0 (otherChunks xs) ≡ true → GapSought base (otherChunks xs) k 0 (run 0 0) xs
+unfolding Onward basePlaces
+gap-start base xs k s =
+    record {
+      start = 0;
+      gap = rw (at-first xs) (record { reached = omega arith; onward = λ x. (let e : k + 0 - 0 + x ≡ k + x = omega arith in rw e); sum = omega arith; stand = s });
+      passed = omega arith;
+    }
+
+module _ (base : ℕ) (cs : List Run) (k earlier : ℕ) (w : Run) (x : ReadSegment) (xs : List ReadSegment) (walk : Walk w (x ∷ xs)) (s : GapSought base cs k earlier w (x ∷ xs)) (size : ℕ) (e : size ≡ roundedUp (endedLength w x)) where
+  none-ended : endedLength w x ≡ 0 → earlier + size ≡ earlier
+  none-ended z = let none : size ≡ 0 = e ∙ ap roundedUp z ∙ rounded-none in omega arith
+
+  kept : endedLength w x ≡ 0 → remaining w (x ∷ xs) ≡ remaining (joinedRun w x) xs → Gap base cs k (earlier + size) (s .start) (remaining (joinedRun w x) xs)
+  kept z is = rw (none-ended z, ← is) (s .gap)
+
+  ended : endedLength w x ≡ w .length → remaining w (x ∷ xs) ≡ w ∷ remaining (joinedRun w x) xs → Gap base cs k (earlier + size) (w .at + size) (remaining (joinedRun w x) xs)
+  ended z is =
+      let all : roundedUp (w .length) ≡ size = sym (e ∙ ap roundedUp z) in
+      rw all at (gap-behind base cs k earlier (s .start) w (remaining (joinedRun w x) xs) (rw is at (s .gap)) (s .passed))
+
+  pub gap-here : k + (earlier + size) < x .position → Seeks (basePlaces base cs) k (run (k + (earlier + size)) (x .position - (k + (earlier + size))))
+  gap-here lt = by (step w x xs walk)
+    where
+      by : Step w x xs → Seeks (basePlaces base cs) k (run (k + (earlier + size)) (x .position - (k + (earlier + size))))
+      by (goes here z is) = absurd (let none = none-ended z in let passed = s .passed in omega arith)
+      by (opens first z is h) = gap-within base cs k (earlier + size) (s .start) (x .position) _ (kept z is) h lt
+      by (ends z is h) = gap-within base cs k (earlier + size) (w .at + size) (x .position) _ (ended z is) h lt
+
+  pub gap-next : x .position ≤ k + (earlier + size) → GapSought base cs k (earlier + size) (joinedRun w x) xs
+  gap-next le = by (step w x xs walk)
+    where
+      passed : joinedRun w x .at ≤ k + (earlier + size)
+      passed = rw (at-position w x xs walk) le
+
+      by : Step w x xs → GapSought base cs k (earlier + size) (joinedRun w x) xs
+      by (goes here z is) = record { start = s .start; gap = kept z is; passed = passed }
+      by (opens first z is h) = record { start = s .start; gap = kept z is; passed = passed }
+      by (ends z is h) = record { start = w .at + size; gap = ended z is; passed = passed }
+
+pub gap-last : (base : ℕ) (cs : List Run) (k earlier size : ℕ) (w : Run) → Walk w [] → k < base → size ≡ roundedUp (w .length) → GapSought base cs k earlier w [] →
+    Seeks (basePlaces base cs) k (run (k + (earlier + size)) (base - k))
+gap-last base cs k earlier size w walk lt e s = by (last w walk)
+  where
+    by : Last w → Seeks (basePlaces base cs) k (run (k + (earlier + size)) (base - k))
+    by (nothing z is) =
+        let same : earlier + size ≡ earlier = (let none : size ≡ 0 = e ∙ ap roundedUp z ∙ rounded-none in omega arith) in
+        rw same (gap-end base cs k earlier (s .start) lt (rw is at (s .gap)))
+    by (itself is) = rw e (gap-end base cs k (earlier + roundedUp (w .length)) _ lt (gap-behind base cs k earlier (s .start) w [] (rw is at (s .gap)) (s .passed)))

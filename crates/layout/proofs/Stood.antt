@@ -1,90 +1,136 @@
--- The walk over chunks that checks where they stand.
+-- The walk over a read list that checks where its chunks stand.
 -- Assumes nothing.
 use mathlib.Core.Path.{_≡_, refl, sym, ap, _∙_}
-use mathlib.Core.Bool.{Bool, true, false, cond, _&&_}
+use mathlib.Core.Bool.{Bool, true, false, cond}
 use mathlib.Core.List.{List, [], _∷_}
-use Prim.Native.Nat.{ℕ, zero, suc, _+_, _-_, _*_, _≤_, _<_}
+use Prim.Native.Nat.{ℕ, _+_, _-_, _≤_, _<_}
 use native.Mathlib.Omega.{arith}
-use native.Mathlib.Numerals.{add-one}
-use lib.ListN.{length, drop, getD}
-use lib.Seq.{drop-cons, drop-length}
-use lib.Dec.{leb}
 use borrow.Author.Tests.{le-leb, lt-leb}
-use Rattle.layout.specs.Layout.{run, roundedUp, roundedTotal, totalLength, stands}
-use Rattle.layout.specs.Walks.{UpTo, Bounded, standingOf}
+use Rattle.wire.specs.declared.ReadSegment.{ReadSegment}
+use Rattle.layout.specs.Layout.{run, otherChunks, roundedUp, roundedTotal, stands}
+use Rattle.layout.specs.Walks.{joinedRun, endedLength, remaining, standingOf}
 use Rattle.layout.specs.declared.Run.{Run}
 use Rattle.layout.specs.declared.Standing.{Standing}
 use Rattle.layout.specs.declared.Standing.the-variants.{Stands, Overlaps}
+use Rattle.layout.proofs.Remaining.{Walk, Headed, Step, goes, opens, ends, step, above, at-position, at-first, Last, nothing, itself, last}
 
 -- Rounding adds 3 at most.
 pub rounded-most : (l : ℕ) → (l ≤ roundedUp l) × (roundedUp l ≤ l + 3)
 unfolding roundedUp
 rounded-most l = (omega arith, omega arith)
 
-total-most : (cs : List Run) → roundedTotal cs ≤ totalLength cs + length cs * 3
-unfolding roundedTotal totalLength
-total-most [] = omega arith
-total-most (c ∷ cs) = let r = rounded-most (c .length) .1 in omega (arith, total-most cs)
+pub rounded-none : roundedUp 0 ≡ 0
+unfolding roundedUp
+rounded-none = refl
 
-total-there : (cs : List Run) (i : ℕ) → i < length cs → getD cs i (run 0 0) .length ≤ totalLength cs
-unfolding totalLength
-total-there [] i h = absurd (omega arith)
-total-there (c ∷ cs) zero h = omega arith
-total-there (c ∷ cs) (suc i) h = omega (arith, total-there cs i (omega arith))
+-- A chunk that stands, one that overlaps the former, and one past the base.
+stands-next : (base end earlier : ℕ) (c : Run) (cs : List Run) → end ≤ c .at → c .at - earlier ≤ base →
+    stands base end earlier (c ∷ cs) ≡ stands base (c .at + roundedUp (c .length)) (earlier + roundedUp (c .length)) cs
+unfolding stands
+stands-next base end earlier c cs a b = rw (le-leb end (c .at) a, le-leb (c .at - earlier) base b)
 
-upto-there : (last : ℕ) (cs : List Run) (i : ℕ) → i < length cs → UpTo last cs → getD cs i (run 0 0) .at ≤ last
-unfolding UpTo
-upto-there last [] i h u = absurd (omega arith)
-upto-there last (c ∷ cs) zero h u = u .0
-upto-there last (c ∷ cs) (suc i) h u = upto-there last cs i (omega arith) (u .2)
+stands-over : (base end earlier p : ℕ) (cs : List Run) → Headed p cs → p < end → stands base end earlier cs ≡ false
+unfolding stands
+stands-over base end earlier p cs h a = rw (h .is, lt-leb end p a)
 
--- A chunk among bounded ones.
-pub bounded-there : (cs : List Run) (i : ℕ) → i < length cs → Bounded cs → (getD cs i (run 0 0) .at ≤ 4294967295) × (getD cs i (run 0 0) .length ≤ 68719476736)
-bounded-there cs i h b = (upto-there 4294967295 cs i h (b .rise), omega (arith, total-there cs i h, b .small))
+stands-past : (base end earlier p : ℕ) (cs : List Run) → Headed p cs → end ≤ p → base < p - earlier → stands base end earlier cs ≡ false
+unfolding stands
+stands-past base end earlier p cs h a b = rw (h .is, le-leb end p a, lt-leb (p - earlier) base b)
 
--- Behind i chunks: where the last of them ends, and all their rounded lengths.
-pub record Stood (base : ℕ) (cs : List Run) (end earlier i : ℕ) : Type 0 where
-  pub same : stands base 0 0 cs ≡ stands base end earlier (drop i cs)
-  pub sum : earlier + roundedTotal (drop i cs) ≡ roundedTotal cs
+overlaps : (base : ℕ) (cs : List Run) → stands base 0 0 cs ≡ false → standingOf base cs ≡ Overlaps
+overlaps base cs e = rw e
+
+-- With the chunk w at hand: where the former one ends, and the rounded lengths of all before.
+pub record Stood (base : ℕ) (cs : List Run) (w : Run) (earlier : ℕ) (xs : List ReadSegment) : Type 0 where
+  pub end : ℕ
+  pub same : stands base 0 0 cs ≡ stands base end earlier (remaining w xs)
+  pub sum : earlier + roundedTotal (remaining w xs) ≡ roundedTotal cs
   pub below : earlier ≤ end
+  pub behind : end ≤ w .at
+  pub near : w .at - earlier ≤ base
 
-pub stood-start : (base : ℕ) (cs : List Run) → Stood base cs 0 0 0
-stood-start base cs = record { same = refl; sum = omega arith; below = omega arith }
+pub stood-start : (base : ℕ) (xs : List ReadSegment) → Stood base (otherChunks xs) (run 0 0) 0 xs
+stood-start base xs = record { end = 0; same = rw (at-first xs); sum = rw (at-first xs) (omega arith); below = omega arith; behind = omega arith; near = omega arith }
 
-module _ (base : ℕ) (cs : List Run) (end earlier i : ℕ) (h : i < length cs) (w : Stood base cs end earlier i) where
-  abbrev here : Run
-  here = getD cs i (run 0 0)
+module _ (base : ℕ) (cs : List Run) (w : Run) (earlier : ℕ) (x : ReadSegment) (xs : List ReadSegment) (k : Walk w (x ∷ xs)) (s : Stood base cs w earlier (x ∷ xs)) (size : ℕ) (e : size ≡ roundedUp (endedLength w x)) where
+  none-ended : endedLength w x ≡ 0 → size ≡ 0
+  none-ended z = e ∙ ap roundedUp z ∙ rounded-none
 
-  step : stands base 0 0 cs ≡ (leb end (here .at) && (leb (here .at - earlier) base && stands base (here .at + roundedUp (here .length)) (earlier + roundedUp (here .length)) (drop (i + 1) cs)))
-  unfolding stands
-  step = w .same ∙ rw (drop-cons cs i (run 0 0) h, add-one)
+  all-ended : endedLength w x ≡ w .length → roundedUp (w .length) ≡ size
+  all-ended z = sym (e ∙ ap roundedUp z)
 
-  pub stood-next : (size : ℕ) → size ≡ roundedUp (here .length) → end ≤ here .at → here .at - earlier ≤ base → Stood base cs (here .at + size) (earlier + size) (i + 1)
+  -- What follows if the chunk at hand goes on, and if it ends.
+  stays : endedLength w x ≡ 0 → remaining w (x ∷ xs) ≡ remaining (joinedRun w x) xs → x .position - (earlier + size) ≤ base → Stood base cs (joinedRun w x) (earlier + size) xs
+  stays z is near =
+      let nothing-more : earlier + size ≡ earlier = (let none = none-ended z in omega arith) in
+      let below = s .below in
+      let behind = s .behind in
+      let up = above w x xs k in
+      record {
+        end = s .end;
+        same = s .same ∙ rw (is, nothing-more);
+        sum = rw (nothing-more, ← is) (s .sum);
+        below = omega arith;
+        behind = rw (at-position w x xs k) (omega arith);
+        near = rw (at-position w x xs k) near;
+      }
+
+  same-ended : endedLength w x ≡ w .length → remaining w (x ∷ xs) ≡ w ∷ remaining (joinedRun w x) xs → stands base 0 0 cs ≡ stands base (w .at + size) (earlier + size) (remaining (joinedRun w x) xs)
+  same-ended z is = s .same ∙ rw (is, stands-next base (s .end) earlier w (remaining (joinedRun w x) xs) (s .behind) (s .near), all-ended z)
+
+  pub stood-next : w .at + size ≤ x .position → x .position - (earlier + size) ≤ base → Stood base cs (joinedRun w x) (earlier + size) xs
   unfolding roundedTotal
-  stood-next size e a b =
-      let sum = w .sum in
-      let rest : roundedTotal (drop i cs) ≡ roundedUp (here .length) + roundedTotal (drop (i + 1) cs) = rw (drop-cons cs i (run 0 0) h, add-one) in
-      let below = w .below in
-      record { same = step ∙ rw (le-leb end (here .at) a, le-leb (here .at - earlier) base b, e); sum = rw e (omega arith); below = omega arith }
+  stood-next over near = by (step w x xs k)
+    where
+      by : Step w x xs → Stood base cs (joinedRun w x) (earlier + size) xs
+      by (goes here z is) = stays z is near
+      by (opens none z is h) = stays z is near
+      by (ends z is h) =
+          let below = s .below in
+          let behind = s .behind in
+          let sum : earlier + (roundedUp (w .length) + roundedTotal (remaining (joinedRun w x) xs)) ≡ roundedTotal cs = rw is at (s .sum) in
+          let all = all-ended z in
+          record {
+            end = w .at + size;
+            same = same-ended z is;
+            sum = omega arith;
+            below = omega arith;
+            behind = rw (at-position w x xs k) over;
+            near = rw (at-position w x xs k) near;
+          }
 
-  pub stood-overlaps : here .at < end → standingOf base cs ≡ Overlaps
-  stood-overlaps a = rw (step, lt-leb end (here .at) a)
+  pub stood-overlaps : x .position < w .at + size → standingOf base cs ≡ Overlaps
+  stood-overlaps under = by (step w x xs k)
+    where
+      by : Step w x xs → standingOf base cs ≡ Overlaps
+      by (goes here z is) = absurd (let none = none-ended z in let up = above w x xs k in omega arith)
+      by (opens first z is h) = absurd (let none = none-ended z in let up = above w x xs k in omega arith)
+      by (ends z is h) = overlaps base cs (same-ended z is ∙ stands-over base (w .at + size) (earlier + size) (x .position) _ h under)
 
-  pub stood-past : end ≤ here .at → base < here .at - earlier → standingOf base cs ≡ Overlaps
-  stood-past a b = rw (step, le-leb end (here .at) a, lt-leb (here .at - earlier) base b)
+  pub stood-past : w .at + size ≤ x .position → base < x .position - (earlier + size) → standingOf base cs ≡ Overlaps
+  stood-past over past = by (step w x xs k)
+    where
+      by : Step w x xs → standingOf base cs ≡ Overlaps
+      by (goes here z is) = absurd (let none = none-ended z in let near = s .near in omega arith)
+      by (opens first z is h) =
+          let none = none-ended z in
+          let behind = s .behind in
+          let up = above w x xs k in
+          overlaps base cs (s .same ∙ rw is (stands-past base (s .end) earlier (x .position) _ h (omega arith) (omega arith)))
+      by (ends z is h) = overlaps base cs (same-ended z is ∙ stands-past base (w .at + size) (earlier + size) (x .position) _ h over past)
 
-  -- No sum on the way is too large.
-  pub stood-small : Bounded cs → length cs ≤ 16 → (here .at ≤ 4294967295) × (here .length ≤ 68719476736) × (earlier ≤ 68719476784)
-  stood-small b few =
-      let there = bounded-there cs i h b in
-      (there .0, there .1, omega (arith, w .sum, total-most cs, b .small))
-
-pub stood-all : (base : ℕ) (cs : List Run) (end earlier i : ℕ) → i ≡ length cs → Stood base cs end earlier i → Stands earlier ≡ standingOf base cs
+pub stood-all : (base : ℕ) (cs : List Run) (w : Run) (earlier size : ℕ) → Walk w [] → Stood base cs w earlier [] → size ≡ roundedUp (w .length) → Stands (earlier + size) ≡ standingOf base cs
 unfolding stands roundedTotal
-stood-all base cs end earlier i e w =
-    let none : drop i cs ≡ [] = rw e (drop-length cs) in
-    let sum : earlier ≡ roundedTotal cs = (let s = w .sum in let z : roundedTotal (drop i cs) ≡ 0 = rw none in omega arith) in
-    rw (w .same, none, sum)
+stood-all base cs w earlier size k s e = by (last w k)
+  where
+    by : Last w → Stands (earlier + size) ≡ standingOf base cs
+    by (nothing z is) =
+        let none : size ≡ 0 = e ∙ ap roundedUp z ∙ rounded-none in
+        let sum : earlier + size ≡ roundedTotal cs = (let all = rw is at (s .sum) in omega arith) in
+        rw (s .same, is, sum)
+    by (itself is) =
+        let sum : earlier + size ≡ roundedTotal cs = (let all = rw is at (s .sum) in omega arith) in
+        rw (s .same, is, stands-next base (s .end) earlier w [] (s .behind) (s .near), sum)
 
 -- What the answer says.
 told : (b : Bool) (n size : ℕ) → cond b (Stands n) Overlaps ≡ Stands size → (b ≡ true) × (size ≡ n)
@@ -104,20 +150,3 @@ told-not false n e = refl
 
 pub overlaps-told : (base : ℕ) (cs : List Run) → standingOf base cs ≡ Overlaps → stands base 0 0 cs ≡ false
 overlaps-told base cs e = told-not (stands base 0 0 cs) (roundedTotal cs) e
-
-pub rounded-small : (cs : List Run) → Bounded cs → length cs ≤ 16 → roundedTotal cs ≤ 68719476784
-rounded-small cs b few = omega (arith, total-most cs, b .small)
-
--- The bytes of one chunk more.
-pub total-drop : (cs : List Run) (i sum : ℕ) → i < length cs → sum + totalLength (drop i cs) ≡ totalLength cs →
-    sum + getD cs i (run 0 0) .length + totalLength (drop (i + 1) cs) ≡ totalLength cs
-unfolding totalLength
-total-drop cs i sum h e =
-    let more : totalLength (drop i cs) ≡ getD cs i (run 0 0) .length + totalLength (drop (i + 1) cs) = rw (drop-cons cs i (run 0 0) h, add-one) in
-    omega arith
-
-pub total-end : (cs : List Run) (i sum : ℕ) → i ≡ length cs → sum + totalLength (drop i cs) ≡ totalLength cs → sum ≡ totalLength cs
-unfolding totalLength
-total-end cs i sum h e =
-    let none : totalLength (drop i cs) ≡ 0 = rw (h, drop-length) in
-    omega arith

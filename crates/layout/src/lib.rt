@@ -7,8 +7,8 @@ ghost use mathlib.Core.Bool.{true};
 ghost use Prim.Native.Nat.{_+_, _-_, _≤_, _<_};
 ghost use lib.ListN.{take};
 ghost use Rattle.lists.specs.Lists.{positionsNumber};
-ghost use Rattle.layout.specs.Layout.{roundedUp, totalLength, kindFits, stands, places, basePlaces};
-ghost use Rattle.layout.specs.Walks.{found, tailWith, Near, ChunksOf, Bounded, standingOf, measuredOf, Seeks};
+ghost use Rattle.layout.specs.Layout.{otherChunks, roundedUp, totalLength, kindFits, stands, places, basePlaces};
+ghost use Rattle.layout.specs.Walks.{sumsWith, sumsOf, endedLength, joinedRun, Near, standingOf, measuredOf, Seeks};
 
 // "kind and lists do not fit"
 pub const KIND_AND_LISTS: u32 = 12;
@@ -31,20 +31,8 @@ pub struct Run {
     pub length: usize,
 }
 
-// The chunks of a read list: those elsewhere than at position 0 by position, of the chunk at 0 its length, and the bytes of all.
-pub struct Chunks {
-    pub runs: [Run; 16],
-    pub count: usize,
-    pub zero_length: usize,
-    pub any_zero: bool,
-    pub all_length: usize,
-}
-
-// The same without the table, of which the last chunk alone; one of no bytes at 0 if there is none. A walk hands it on, since
-// a table by value is copied at each step.
-pub struct Tail {
-    pub last: Run,
-    pub count: usize,
+// What the segments of a read list make together: the bytes at position 0, whether any segment stands there, and all bytes.
+pub struct Sums {
     pub zero_length: usize,
     pub any_zero: bool,
     pub all_length: usize,
@@ -70,7 +58,7 @@ fn wide(x: u32) -> usize
 
 // A length, rounded up to a multiple of 4.
 fn rounded(length: usize) -> usize
-    requires { ⌜ length ≤ 68719476736 ⌝ }
+    requires { ⌜ length ≤ 68719476800 ⌝ }
     ensures { λ r. ⌜ (r ≡ roundedUp length) × (length ≤ r) × (r ≤ length + 3) ⌝ }
 {
     (length + 3) / UNIT_BYTES * UNIT_BYTES
@@ -78,115 +66,106 @@ fn rounded(length: usize) -> usize
 
 // "then Ri - Li zero bytes": how many they are.
 pub fn padding(length: usize) -> usize
-    requires { ⌜ length ≤ 68719476736 ⌝ }
+    requires { ⌜ length ≤ 68719476800 ⌝ }
     ensures { λ r. ⌜ (r ≡ roundedUp length - length) × (r ≤ 3) ⌝ }
 {
     rounded(length) - length
 }
 
-// Where the last of so many chunks is in their table.
-fn last_place(count: usize) -> usize
-    ensures { λ r. ⌜ r ≡ count - 1 ⌝ }
+// A segment more.
+fn add_sums(s: Sums, x: ReadSegment) -> Sums
+    requires { ⌜ (s .«zero_length» ≤ s .«all_length») × (s .«all_length» ≤ 64424509440) ⌝ }
+    ensures { λ r. ⌜ (r ≡ sumsWith s x) × (x .target .length < 4294967296) ⌝ }
 {
-    if count == 0 {
-        return 0;
-    }
-    count - 1
-}
-
-// A segment joins the chunk of its position, which is the last if it is there.
-fn add_segment(t: Tail, x: ReadSegment) -> Tail
-    requires { ⌜ (t .count < 16) × (t .last .length ≤ t .«all_length») × (t .«zero_length» ≤ t .«all_length») × (t .«all_length» ≤ 64424509440) ⌝ }
-    ensures { λ r. ⌜ (r ≡ tailWith t x) × Near x ⌝ }
-{
-    let last = t.last;
     let target = x.target;
-    let position = wide(x.position);
     let length = wide(target.length);
-    let all_length = t.all_length + length;
-    if position == 0 {
-        return Tail {
-            last,
-            count: t.count,
-            zero_length: t.zero_length + length,
+    let all_length = s.all_length + length;
+    if x.position == 0 {
+        return Sums {
+            zero_length: s.zero_length + length,
             any_zero: true,
             all_length,
         };
     }
-    if last.at == position {
-        return Tail {
-            last: Run {
-                at: position,
-                length: length + last.length,
-            },
-            count: t.count,
-            zero_length: t.zero_length,
-            any_zero: t.any_zero,
-            all_length,
-        };
-    }
-    Tail {
-        last: Run {
-            at: position,
-            length,
-        },
-        count: t.count + 1,
-        zero_length: t.zero_length,
-        any_zero: t.any_zero,
+    Sums {
+        zero_length: s.zero_length,
+        any_zero: s.any_zero,
         all_length,
     }
 }
 
-// The chunks of the first n segments.
-pub fn chunks_of(segments: [ReadSegment; 16], n: usize) -> Chunks
-    requires { ⌜ (n ≤ 16) × (positionsNumber 0 (take n segments) 0 ≡ 0) ⌝ }
-    ensures { λ r. ⌜ ChunksOf (take n segments) r ⌝ }
+// What the first n segments make together.
+pub fn sums_of(segments: [ReadSegment; 16], n: usize) -> Sums
+    requires { ⌜ n ≤ 16 ⌝ }
+    ensures { λ r. ⌜ r ≡ sumsOf (take n segments) ⌝ }
 {
-    let z = Run { at: 0, length: 0 };
-    let mut runs = [z; 16];
-    let mut t = Tail {
-        last: z,
-        count: 0,
+    let mut s = Sums {
         zero_length: 0,
         any_zero: false,
         all_length: 0,
     };
     for i in 0..n {
         let x = segments[i];
-        t = add_segment(t, x);
-        let k = last_place(t.count);
-        let last = t.last;
-        runs[k] = last;
+        s = add_sums(s, x);
     }
-    Chunks {
-        runs,
-        count: t.count,
-        zero_length: t.zero_length,
-        any_zero: t.any_zero,
-        all_length: t.all_length,
+    s
+}
+
+// In a walk over read segments, the chunk at hand is a run: where it stands, and its bytes so far. Before the first segment
+// elsewhere than at position 0 it has none, at 0. So many bytes has the chunk that a segment ends; 0 if it ends none.
+pub fn ended(w: Run, x: ReadSegment) -> usize
+    ensures { λ r. ⌜ r ≡ endedLength w x ⌝ }
+{
+    if w.at == wide(x.position) {
+        return 0;
+    }
+    w.length
+}
+
+// The chunk at hand behind a segment.
+pub fn joined(w: Run, x: ReadSegment) -> Run
+    requires { ⌜ w .length ≤ 68719476800 ⌝ }
+    ensures { λ r. ⌜ (r ≡ joinedRun w x) × Near x ⌝ }
+{
+    let target = x.target;
+    let position = wide(x.position);
+    let length = wide(target.length);
+    if position == 0 {
+        return w;
+    }
+    if w.at == position {
+        return Run {
+            at: w.at,
+            length: w.length + length,
+        };
+    }
+    Run {
+        at: position,
+        length,
     }
 }
 
 // Whether each chunk stands behind the former one and within the base.
-fn chunks_stand(runs: [Run; 16], count: usize, base: usize) -> Standing
-    requires { ⌜ (count ≤ 16) × Bounded (take count runs) ⌝ }
-    ensures { λ r. ⌜ r ≡ standingOf base (take count runs) ⌝ }
+fn chunks_stand(segments: [ReadSegment; 16], n: usize, base: usize) -> Standing
+    requires { ⌜ (n ≤ 16) × (positionsNumber 0 (take n segments) 0 ≡ 0) ⌝ }
+    ensures { λ r. ⌜ r ≡ standingOf base (otherChunks (take n segments)) ⌝ }
 {
-    let mut end = 0;
+    let mut w = Run { at: 0, length: 0 };
     let mut earlier = 0;
-    for i in 0..count {
-        let c = runs[i];
-        if c.at < end {
+    for i in 0..n {
+        let x = segments[i];
+        let position = wide(x.position);
+        let size = rounded(ended(w, x));
+        if position < w.at + size {
             return Standing::Overlaps;
         }
-        if base < c.at - earlier {
-            return Standing::Overlaps;
-        }
-        let size = rounded(c.length);
-        end = c.at + size;
         earlier += size;
+        if base < position - earlier {
+            return Standing::Overlaps;
+        }
+        w = joined(w, x);
     }
-    Standing::Stands(earlier)
+    Standing::Stands(earlier + rounded(w.length))
 }
 
 fn kind_fits(kind: Kind, any_zero: bool) -> bool
@@ -206,29 +185,35 @@ fn refused(number: u32) -> Measured
 }
 
 // The checks of a start behind those of the reader, for a base of so many bytes and a buffer of `room`.
-pub fn measure(kind: Kind, base: usize, c: Chunks, room: usize) -> Measured
-    requires { ⌜ (c .count ≤ 16) × Bounded (found c) ⌝ }
-    ensures { λ r. ⌜ r ≡ measuredOf kind base c room ⌝ }
+pub fn measure(
+    kind: Kind,
+    base: usize,
+    any_zero: bool,
+    segments: [ReadSegment; 16],
+    n: usize,
+    room: usize,
+) -> Measured
+    requires { ⌜ (n ≤ 16) × (positionsNumber 0 (take n segments) 0 ≡ 0) ⌝ }
+    ensures { λ r. ⌜ r ≡ measuredOf kind base «any_zero» (otherChunks (take n segments)) room ⌝ }
 {
-    if !kind_fits(kind, c.any_zero) {
+    if !kind_fits(kind, any_zero) {
         return refused(KIND_AND_LISTS);
     }
     if base % UNIT_BYTES != 0 {
         return refused(BASE_UNALIGNED);
     }
-    let runs = c.runs;
-    let stood = chunks_stand(runs, c.count, base);
+    let stood = chunks_stand(segments, n, base);
     let Standing::Stands(size) = stood else {
         return refused(CHUNK_OVERLAPS);
     };
-    // The base alone may be any number; the sum must not wrap.
+    // The base may be any number, and the chunks very long; the sum must not wrap.
     if LONGEST_MESSAGE < base {
         return refused(MESSAGE_LONG);
     }
-    let message = base + size;
-    if LONGEST_MESSAGE < message {
+    if LONGEST_MESSAGE - base < size {
         return refused(MESSAGE_LONG);
     }
+    let message = base + size;
     if room < message {
         return refused(wire::BUFFER_SHORT);
     }
@@ -236,43 +221,52 @@ pub fn measure(kind: Kind, base: usize, c: Chunks, room: usize) -> Measured
 }
 
 // The run that byte k of the base begins.
-pub fn seek_base(runs: [Run; 16], count: usize, base: usize, k: usize) -> Run
-    requires { ⌜ (count ≤ 16) × Bounded (take count runs) × (stands base 0 0 (take count runs) ≡ true) × (k < base) × (base ≤ 1048576) ⌝ }
-    ensures { λ r. ⌜ Seeks (basePlaces base (take count runs)) k r ⌝ }
+pub fn seek_base(segments: [ReadSegment; 16], n: usize, base: usize, k: usize) -> Run
+    requires { ⌜ (n ≤ 16) × (positionsNumber 0 (take n segments) 0 ≡ 0) × (stands base 0 0 (otherChunks (take n segments)) ≡ true) × (k < base) × (base ≤ 1048576) ⌝ }
+    ensures { λ r. ⌜ Seeks (basePlaces base (otherChunks (take n segments))) k r ⌝ }
 {
+    let mut w = Run { at: 0, length: 0 };
     let mut earlier = 0;
-    for i in 0..count {
-        let c = runs[i];
+    for i in 0..n {
+        let x = segments[i];
+        let position = wide(x.position);
+        earlier += rounded(ended(w, x));
         let here = k + earlier;
-        if here < c.at {
+        if here < position {
             return Run {
                 at: here,
-                length: c.at - here,
+                length: position - here,
             };
         }
-        earlier += rounded(c.length);
+        w = joined(w, x);
     }
     Run {
-        at: k + earlier,
+        at: k + earlier + rounded(w.length),
         length: base - k,
     }
 }
 
 // The run that byte k of the chunks begins.
-pub fn seek_chunk(runs: [Run; 16], count: usize, k: usize) -> Run
-    requires { ⌜ (count ≤ 16) × Bounded (take count runs) × (k < totalLength (take count runs)) ⌝ }
-    ensures { λ r. ⌜ Seeks (places (take count runs)) k r ⌝ }
+pub fn seek_chunk(segments: [ReadSegment; 16], n: usize, k: usize) -> Run
+    requires { ⌜ (n ≤ 16) × (positionsNumber 0 (take n segments) 0 ≡ 0) × (k < totalLength (otherChunks (take n segments))) ⌝ }
+    ensures { λ r. ⌜ Seeks (places (otherChunks (take n segments))) k r ⌝ }
 {
+    let mut w = Run { at: 0, length: 0 };
     let mut left = k;
-    for i in 0..count {
-        let c = runs[i];
-        if left < c.length {
+    for i in 0..n {
+        let x = segments[i];
+        let length = ended(w, x);
+        if left < length {
             return Run {
-                at: c.at + left,
-                length: c.length - left,
+                at: w.at + left,
+                length: length - left,
             };
         }
-        left -= c.length;
+        left -= length;
+        w = joined(w, x);
     }
-    Run { at: 0, length: 0 }
+    Run {
+        at: w.at + left,
+        length: w.length - left,
+    }
 }

@@ -5,20 +5,21 @@ use mathlib.Core.Bool.{Bool, true, false}
 use mathlib.Core.List.{List, [], _∷_, _++_, append-assoc, append-nil}
 use Prim.Native.Nat.{ℕ, zero, suc, _+_, _-_, _≤_, _<_}
 use native.Mathlib.Omega.{arith}
-use native.Mathlib.Numerals.{add-one}
-use lib.ListN.{length, take, drop, getD, replicate, length-append, length-drop, length-replicate, replicate-append-replicate}
-use lib.Seq.{take-suc, take-add, drop-drop, drop-append-le, drop-append-add, drop-at, length-take-le}
-use lib.Dec.{leb}
-use borrow.Author.Tests.{leb-true, ltb-true, ltb-false}
+use lib.ListN.{length, take, drop, replicate, length-append, length-drop, length-replicate, replicate-append-replicate}
+use lib.Seq.{take-add, drop-drop, drop-append-le, drop-append-add, drop-at, length-take-le}
+use lib.Dec.{leb, eqb}
+use borrow.Author.Tests.{leb-true, ltb-true, ltb-false, eqb-true, eqb-false}
 use Rattle.wire.specs.Wire.{stored}
+use Rattle.wire.specs.declared.ReadSegment.{ReadSegment}
 use Rattle.wire.proofs.Laws.{both-hold}
 use Rattle.layout.specs.Places.{from, put}
-use Rattle.layout.specs.Layout.{run, roundedUp, roundedTotal, totalLength, stands, places, gaps, paddings, paddingPlaces, basePlaces, messageLength}
-use Rattle.layout.specs.Walks.{Seeks}
+use Rattle.layout.specs.Layout.{run, otherChunks, roundedUp, roundedTotal, totalLength, stands, places, gaps, paddings, paddingPlaces, basePlaces, messageLength}
+use Rattle.layout.specs.Walks.{joinedRun, endedLength, remaining, Seeks}
 use Rattle.layout.specs.declared.Run.{Run}
 use Rattle.layout.proofs.Putting.{put-append, put-first, put-from, put-run, length-from, length-places}
-use Rattle.layout.proofs.Stood.{rounded-most}
-use Rattle.placing.specs.Sources.{inBase, behindBase, sourcePlaces, Laid}
+use Rattle.layout.proofs.Remaining.{Walk, headed, Step, goes, opens, ends, step, at-first, Last, nothing, itself, last}
+use Rattle.layout.proofs.Stood.{rounded-most, rounded-none}
+use Rattle.placing.specs.Sources.{inBase, behindBase, sourcePlaces}
 
 -- What `stands` says, as facts: a chunk stands at or behind `end`, and at or before `most`, where the base would end if no chunk came any more.
 unfoldable pub Placed : ℕ → ℕ → List Run → Type 0
@@ -165,30 +166,106 @@ zeros-next ps out k n =
     rw (long, ← replicate-append-replicate {A = ℕ} (length ps) n 0, put-append, put-first ps (from k n) (replicate (length ps) 0) out (rw length-replicate (omega arith)), length-replicate, drop-at ps (from k n) (length ps) refl)
     (ap (λ (m : ℕ). put (from k m) (replicate n 0) (put ps (replicate (length ps) 0) out)) (sym (length-replicate n 0)) ∙ put-from k (replicate n 0) (put ps (replicate (length ps) 0) out))
 
--- The padding of chunk i, behind those of the chunks before.
-pub padded-more : (cs : List Run) (i n : ℕ) (before out after : List ℕ) → i < length cs → n ≡ roundedUp (getD cs i (run 0 0) .length) - getD cs i (run 0 0) .length →
-    out ≡ put (paddingPlaces (take i cs)) (replicate (length (paddingPlaces (take i cs))) 0) before →
-    after ≡ stored out (getD cs i (run 0 0) .at + getD cs i (run 0 0) .length) (replicate n 0) →
-    after ≡ put (paddingPlaces (take (i + 1) cs)) (replicate (length (paddingPlaces (take (i + 1) cs))) 0) before
-unfolding paddingPlaces
-padded-more cs i n before out after h e now then =
-    let c = getD cs i (run 0 0) in
-    then ∙ rw (add-one, take-suc cs i (run 0 0) h, paddings-next, places-next, now, e) (sym (zeros-next (places (paddings (take i cs))) before (c .at + c .length) (roundedUp (c .length) - c .length)))
-
--- A chunk ends within the message, its padding too.
-placed-there : (end most : ℕ) (cs : List Run) (i : ℕ) → Placed end most cs → i < length cs → getD cs i (run 0 0) .at + roundedUp (getD cs i (run 0 0) .length) ≤ most + roundedTotal cs
+-- A chunk among others ends within the message, its padding too.
+placed-there : (end most : ℕ) (ds rs : List Run) (c : Run) → Placed end most (ds ++ (c ∷ rs)) → c .at + roundedUp (c .length) ≤ most + roundedTotal (ds ++ (c ∷ rs))
 unfolding Placed roundedTotal
-placed-there end most [] i p h = absurd (omega arith)
-placed-there end most (c ∷ cs) zero p h = let near = p .1 in omega arith
-placed-there end most (c ∷ cs) (suc i) p h = omega (arith, placed-there (c .at + roundedUp (c .length)) (most + roundedUp (c .length)) cs i (p .2) (omega arith))
+placed-there end most [] rs c p = let near = p .1 in omega arith
+placed-there end most (d ∷ ds) rs c p = omega (arith, placed-there (d .at + roundedUp (d .length)) (most + roundedUp (d .length)) ds rs c (p .2))
 
-pub chunk-within : (base : ℕ) (cs : List Run) (i : ℕ) → stands base 0 0 cs ≡ true → i < length cs → getD cs i (run 0 0) .at + roundedUp (getD cs i (run 0 0) .length) ≤ messageLength base cs
-chunk-within base cs i e h = placed-there 0 base cs i (all-placed base cs e) h
+chunk-within : (base : ℕ) (cs ds rs : List Run) (c : Run) → stands base 0 0 cs ≡ true → cs ≡ ds ++ (c ∷ rs) → c .at + roundedUp (c .length) ≤ messageLength base cs
+chunk-within base cs ds rs c s e = rw e (placed-there 0 base ds rs c (rw e at (all-placed base cs s)))
 
--- The number of places is small.
-pub source-small : (based : Bool) (base : ℕ) (cs : List Run) → Laid base cs → length (sourcePlaces based base cs) ≤ 68720525312
-source-small true base cs l = let bounds = l .bounded in omega (arith, length-based base cs (l .stand), l .small, bounds .small)
-source-small false base cs l = let bounds = l .bounded in omega (arith, length-places cs, bounds .small)
+-- In a walk over a read list: the chunks before the one at hand have their padding.
+pub record Padded (cs : List Run) (w : Run) (xs : List ReadSegment) (before out : List ℕ) : Type 0 where
+  pub past : List Run
+  pub all : cs ≡ past ++ remaining w xs
+  pub filled : out ≡ put (paddingPlaces past) (replicate (length (paddingPlaces past)) 0) before
+
+pub padded-start : (xs : List ReadSegment) (out : List ℕ) → Padded (otherChunks xs) (run 0 0) xs out out
+unfolding paddingPlaces paddings places put
+padded-start xs out = record { past = []; all = rw (at-first xs); filled = refl }
+
+-- With the padding of one chunk more.
+padded-more : (cs past : List Run) (c : Run) (w : Run) (xs : List ReadSegment) (n : ℕ) (before out after : List ℕ) → cs ≡ past ++ (c ∷ remaining w xs) → n ≡ roundedUp (c .length) - c .length →
+    out ≡ put (paddingPlaces past) (replicate (length (paddingPlaces past)) 0) before → after ≡ stored out (c .at + c .length) (replicate n 0) → Padded cs w xs before after
+unfolding paddingPlaces
+padded-more cs past c w xs n before out after all e now then =
+    record {
+      past = past ++ (c ∷ []);
+      all = all ∙ sym (append-assoc past (c ∷ []) (remaining w xs));
+      filled = then ∙ rw (paddings-next past c, places-next, now, e) (sym (zeros-next (places (paddings past)) before (c .at + c .length) (roundedUp (c .length) - c .length)));
+    }
+
+module _ (base : ℕ) (cs : List Run) (w : Run) (before out : List ℕ) (stand : stands base 0 0 cs ≡ true) where
+  -- The chunk at hand stands within the message.
+  hand-within : (xs : List ReadSegment) → Walk w xs → Padded cs w xs before out → w .at ≤ messageLength base cs
+  hand-within xs k p = by (eqb (w .at) 0) refl
+    where
+      by : (b : Bool) → eqb (w .at) 0 ≡ b → w .at ≤ messageLength base cs
+      by true e = let z = eqb-true (w .at) 0 e in omega arith
+      by false e =
+          let h = headed w xs (eqb-false (w .at) 0 e) (k .rising) in
+          let most = chunk-within base cs (p .past) (h .rest) (run (w .at) (h .size)) stand (rw (h .is) at (p .all)) in
+          omega arith
+
+  module _ (x : ReadSegment) (xs : List ReadSegment) (k : Walk w (x ∷ xs)) (p : Padded cs w (x ∷ xs) before out) where
+    pub ended-within : w .at + roundedUp (endedLength w x) ≤ messageLength base cs
+    ended-within = by (step w x xs k)
+      where
+        hand : endedLength w x ≡ 0 → w .at + roundedUp (endedLength w x) ≤ messageLength base cs
+        hand z = rw (z, rounded-none) (omega (arith, hand-within (x ∷ xs) k p))
+
+        by : Step w x xs → w .at + roundedUp (endedLength w x) ≤ messageLength base cs
+        by (goes here z is) = hand z
+        by (opens first z is h) = hand z
+        by (ends z is h) = rw z (chunk-within base cs (p .past) (remaining (joinedRun w x) xs) w stand (rw is at (p .all)))
+
+    pub padded-next : (n : ℕ) (after : List ℕ) → n ≡ roundedUp (endedLength w x) - endedLength w x → after ≡ stored out (w .at + endedLength w x) (replicate n 0) → Padded cs (joinedRun w x) xs before after
+    unfolding stored
+    padded-next n after e then = by (step w x xs k)
+      where
+        same : endedLength w x ≡ 0 → remaining w (x ∷ xs) ≡ remaining (joinedRun w x) xs → Padded cs (joinedRun w x) xs before after
+        same z is =
+            let none : n ≡ 0 = (let r = ap roundedUp z ∙ rounded-none in omega arith) in
+            let kept : after ≡ out = then ∙ rw none in
+            record { past = p .past; all = rw is at (p .all); filled = kept ∙ p .filled }
+
+        by : Step w x xs → Padded cs (joinedRun w x) xs before after
+        by (goes here z is) = same z is
+        by (opens first z is h) = same z is
+        by (ends z is h) = padded-more cs (p .past) w (joinedRun w x) xs n before out after (rw is at (p .all)) (rw z at e) (p .filled) (rw z at then)
+
+  module _ (k : Walk w []) (p : Padded cs w [] before out) where
+    pub last-within : w .at + roundedUp (w .length) ≤ messageLength base cs
+    last-within = by (last w k)
+      where
+        by : Last w → w .at + roundedUp (w .length) ≤ messageLength base cs
+        by (nothing z is) = rw (z, rounded-none) (omega (arith, hand-within [] k p))
+        by (itself is) = chunk-within base cs (p .past) [] w stand (rw is at (p .all))
+
+    pub padded-last : (n : ℕ) (after : List ℕ) → n ≡ roundedUp (w .length) - w .length → after ≡ stored out (w .at + w .length) (replicate n 0) → after ≡ put (paddingPlaces cs) (replicate (length (paddingPlaces cs)) 0) before
+    unfolding stored otherChunks
+    padded-last n after e then = by (last w k)
+      where
+        by : Last w → after ≡ put (paddingPlaces cs) (replicate (length (paddingPlaces cs)) 0) before
+        by (nothing z is) =
+            let none : n ≡ 0 = (let r = ap roundedUp z ∙ rounded-none in omega arith) in
+            let all : cs ≡ p .past = (rw is at (p .all)) ∙ append-nil (p .past) in
+            then ∙ rw (none, all) (p .filled)
+        by (itself is) =
+            let made = padded-more cs (p .past) w (run 0 0) [] n before out after ((rw is at (p .all)) ∙ ap (λ (rs : List Run). p .past ++ (w ∷ rs)) (sym (at-first []))) e (p .filled) then in
+            let all : cs ≡ made .past = made .all ∙ ap (λ (rs : List Run). made .past ++ rs) (at-first []) ∙ append-nil (made .past) in
+            rw all (made .filled)
+
+-- There are no more places than the message has bytes.
+total-rounded : (cs : List Run) → totalLength cs ≤ roundedTotal cs
+unfolding totalLength roundedTotal
+total-rounded [] = omega arith
+total-rounded (c ∷ cs) = let up = rounded-most (c .length) .0 in omega (arith, total-rounded cs)
+
+pub source-most : (based : Bool) (base : ℕ) (cs : List Run) → stands base 0 0 cs ≡ true → length (sourcePlaces based base cs) ≤ messageLength base cs
+source-most true base cs e = omega (arith, length-based base cs e, total-rounded cs)
+source-most false base cs e = omega (arith, length-places cs, total-rounded cs)
 
 -- A byte of the base.
 pub base-byte : (based : Bool) (base k : ℕ) → inBase based base k ≡ true → k < base
@@ -200,13 +277,13 @@ seek-base-byte true base k cs r e s = seek-front (basePlaces base cs) (places cs
 seek-base-byte false base k cs r e s = absurd (let z : _≡_ {A = ℕ} 0 1 = cc in omega arith)
 
 -- A byte of the chunks.
-pub chunk-byte : (based : Bool) (base k : ℕ) (cs : List Run) → Laid base cs → inBase based base k ≡ false → k < length (sourcePlaces based base cs) → behindBase based base k < totalLength cs
-chunk-byte true base k cs l e h = let behind = ltb-false k base e in omega (arith, length-based base cs (l .stand))
+pub chunk-byte : (based : Bool) (base k : ℕ) (cs : List Run) → stands base 0 0 cs ≡ true → inBase based base k ≡ false → k < length (sourcePlaces based base cs) → behindBase based base k < totalLength cs
+chunk-byte true base k cs l e h = let behind = ltb-false k base e in omega (arith, length-based base cs l)
 chunk-byte false base k cs l e h = omega (arith, length-places cs)
 
-pub seek-chunk-byte : (based : Bool) (base k : ℕ) (cs : List Run) (r : Run) → Laid base cs → inBase based base k ≡ false → Seeks (places cs) (behindBase based base k) r → Seeks (sourcePlaces based base cs) k r
+pub seek-chunk-byte : (based : Bool) (base k : ℕ) (cs : List Run) (r : Run) → stands base 0 0 cs ≡ true → inBase based base k ≡ false → Seeks (places cs) (behindBase based base k) r → Seeks (sourcePlaces based base cs) k r
 seek-chunk-byte true base k cs r l e s =
-    let long = length-base base cs (l .stand) in
+    let long = length-base base cs l in
     let behind = ltb-false k base e in
     seek-behind (basePlaces base cs) (places cs) k r (omega arith) (rw long s)
 seek-chunk-byte false base k cs r l e s = s

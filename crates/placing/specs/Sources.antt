@@ -4,8 +4,9 @@ use mathlib.Core.Path.{_≡_}
 use mathlib.Core.Bool.{Bool, true, false}
 use mathlib.Core.List.{List, _++_}
 use lib.Dec.{ltb}
-use Rattle.layout.specs.Layout.{stands, places, basePlaces}
-use Rattle.layout.specs.Walks.{Bounded}
+use Rattle.wire.specs.declared.ReadSegment.{ReadSegment}
+use Rattle.lists.specs.Lists.{positionsNumber}
+use Rattle.layout.specs.Layout.{otherChunks, stands, places, basePlaces}
 use Rattle.layout.specs.declared.Run.{Run}
 
 -- Whether byte k is one of the base, where the base is placed before the chunks.
@@ -22,8 +23,8 @@ abbrev pub sourcePlaces : Bool → ℕ → List Run → List ℕ
 sourcePlaces true base cs = basePlaces base cs ++ places cs
 sourcePlaces false base cs = places cs
 
--- Chunks that have passed the checks of a start over a base.
-pub record Laid (base : ℕ) (cs : List Run) : Type 0 where
-  pub bounded : Bounded cs
-  pub stand : stands base 0 0 cs ≡ true
+-- A read list that has passed the checks of a start over a base.
+pub record Laid (base : ℕ) (reads : List ReadSegment) : Type 0 where
+  pub rise : positionsNumber 0 reads 0 ≡ 0
+  pub stand : stands base 0 0 (otherChunks reads) ≡ true
   pub small : base ≤ 1048576

@@ -1,11 +1,12 @@
 // Bytes of a message, put at their places in the output buffer. Internal to the library.
 use layout::Run;
+use wire::ReadSegment;
 ghost use mathlib.Core.Path.{_≡_};
 ghost use mathlib.Core.Bool.{false};
 ghost use Prim.Native.Nat.{_+_, _≤_, _<_};
 ghost use lib.ListN.{length, take, drop, replicate};
 ghost use Rattle.layout.specs.Places.{put};
-ghost use Rattle.layout.specs.Layout.{messageLength, paddingPlaces};
+ghost use Rattle.layout.specs.Layout.{otherChunks, messageLength, paddingPlaces};
 ghost use Rattle.layout.specs.Walks.{Seeks};
 ghost use Rattle.placing.specs.Sources.{inBase, behindBase, sourcePlaces, Laid};
 
@@ -31,14 +32,14 @@ fn behind_base(based: bool, base: usize, k: usize) -> usize
 }
 
 // The run that byte k begins.
-fn seek(runs: [Run; 16], n: usize, base: usize, based: bool, k: usize) -> Run
-    requires { ⌜ (n ≤ 16) × Laid base (take n runs) × (k < length (sourcePlaces based base (take n runs))) ⌝ }
-    ensures { λ r. ⌜ Seeks (sourcePlaces based base (take n runs)) k r ⌝ }
+fn seek(segments: [ReadSegment; 16], n: usize, base: usize, based: bool, k: usize) -> Run
+    requires { ⌜ (n ≤ 16) × Laid base (take n segments) × (k < length (sourcePlaces based base (otherChunks (take n segments)))) ⌝ }
+    ensures { λ r. ⌜ Seeks (sourcePlaces based base (otherChunks (take n segments))) k r ⌝ }
 {
     if in_base(based, base, k) {
-        return layout::seek_base(runs, n, base, k);
+        return layout::seek_base(segments, n, base, k);
     }
-    layout::seek_chunk(runs, n, behind_base(based, base, k))
+    layout::seek_chunk(segments, n, behind_base(based, base, k))
 }
 
 fn least(x: usize, y: usize) -> usize
@@ -55,18 +56,18 @@ fn least(x: usize, y: usize) -> usize
 pub fn place(
     out: &mut [u8],
     piece: &[u8],
-    runs: [Run; 16],
+    segments: [ReadSegment; 16],
     n: usize,
     base: usize,
     based: bool,
     count: usize,
 )
-    requires { ⌜ (n ≤ 16) × Laid base (take n runs) × (messageLength base (take n runs) ≤ length (now out)) × (count + length (now piece) ≤ length (sourcePlaces based base (take n runs))) ⌝ }
-    ensures { λ _. ⌜ now (out .exit) ≡ put (drop count (sourcePlaces based base (take n runs))) (now (piece .entry)) (now (out .entry)) ⌝ }
+    requires { ⌜ (n ≤ 16) × Laid base (take n segments) × (messageLength base (otherChunks (take n segments)) ≤ length (now out)) × (count + length (now piece) ≤ length (sourcePlaces based base (otherChunks (take n segments)))) ⌝ }
+    ensures { λ _. ⌜ now (out .exit) ≡ put (drop count (sourcePlaces based base (otherChunks (take n segments)))) (now (piece .entry)) (now (out .entry)) ⌝ }
 {
     let mut j = 0;
     while j < piece.len() {
-        let r = seek(runs, n, base, based, count + j);
+        let r = seek(segments, n, base, based, count + j);
         let at = r.at;
         let m = least(r.length, piece.len() - j);
         let e = j + m;
@@ -76,12 +77,16 @@ pub fn place(
 }
 
 // Writes the padding of each chunk.
-pub fn clear_paddings(out: &mut [u8], runs: [Run; 16], n: usize, base: usize)
-    requires { ⌜ (n ≤ 16) × Laid base (take n runs) × (messageLength base (take n runs) ≤ length (now out)) ⌝ }
-    ensures { λ _. ⌜ now (out .exit) ≡ put (paddingPlaces (take n runs)) (replicate (length (paddingPlaces (take n runs))) 0) (now (out .entry)) ⌝ }
+pub fn clear_paddings(out: &mut [u8], segments: [ReadSegment; 16], n: usize, base: usize)
+    requires { ⌜ (n ≤ 16) × Laid base (take n segments) × (messageLength base (otherChunks (take n segments)) ≤ length (now out)) ⌝ }
+    ensures { λ _. ⌜ now (out .exit) ≡ put (paddingPlaces (otherChunks (take n segments))) (replicate (length (paddingPlaces (otherChunks (take n segments)))) 0) (now (out .entry)) ⌝ }
 {
+    let mut w = Run { at: 0, length: 0 };
     for i in 0..n {
-        let r = runs[i];
-        copy::clear_at(out, r.at + r.length, layout::padding(r.length));
+        let x = segments[i];
+        let length = layout::ended(w, x);
+        copy::clear_at(out, w.at + length, layout::padding(length));
+        w = layout::joined(w, x);
     }
+    copy::clear_at(out, w.at + w.length, layout::padding(w.length));
 }

@@ -1,6 +1,5 @@
 -- `assembly::judge` meets its contract.
-use Rattle.assembly.proofs.Judging.{unfit-judges, too-many, out-of-order, other-buffer, misplaced, placed-of, other-base, over-taken, fit-judges}
-use Rattle.assembly.proofs.Starting.{measured-message}
+use Rattle.assembly.proofs.Judging.{unfit-judges, too-many, out-of-order, other-buffer, misplaced, other-base, over-taken, fit-judges}
 use mathlib.Core.Path.{refl, sym, _∙_}
 use borrow.Author.Needs.{needs}
 use Rattle.assembly.proofs.judge.Statement.{statement}
@@ -36,8 +35,8 @@ returns-3 : tie.Need-returns-3
 returns-3 c =
     unfit-judges _ _ _ (c .unfit3 .ensures) (other-buffer (c .before .before .before .before .before .before .before .before .before .before .args .s) (c .before .before .before .before .before .before .before .before .before .before .args .room) (c .before .if3 .taken))
 
-chunks-of-requires : tie.Need-chunks-of-requires
-chunks-of-requires c κs = search needs
+sums-of-requires : tie.Need-sums-of-requires
+sums-of-requires c κs = search needs
 
 measure-requires : tie.Need-measure-requires
 measure-requires c κs = search needs
@@ -52,9 +51,9 @@ returns-4 c =
     let few = c .before .before .before .before .before .before .before .before .before .before .if1 .left in
     let rise = sym (c .before .before .before .before .before .before .before .before .positions-number .ensures) ∙ c .before .before .before .before .before .before .before .if2 .left in
     let same = c .before .before .before .before .before .if3 .left in
-    let found = c .before .before .before .before .chunks-of in
+    let sums = c .before .before .before .before .sums-of in
     let measured = c .before .before .before .measure in
-    unfit-judges _ _ _ (c .unfit4 .ensures) (misplaced s room few rise same (found .result) (found .ensures) (measured .result) (measured .ensures) (c .before .if4 .taken))
+    unfit-judges _ _ _ (c .unfit4 .ensures) (misplaced s room few rise same (sums .result) (sums .ensures) (measured .result) (measured .ensures) (c .before .if4 .taken))
 
 base-length-requires : tie.Need-base-length-requires
 base-length-requires c κs = search needs
@@ -69,10 +68,10 @@ returns-5 c =
     let few = c .before .before .before .before .before .before .before .before .before .before .before .before .if1 .left in
     let rise = sym (c .before .before .before .before .before .before .before .before .before .before .positions-number .ensures) ∙ c .before .before .before .before .before .before .before .before .before .if2 .left in
     let same = c .before .before .before .before .before .before .before .if3 .left in
-    let found = c .before .before .before .before .before .before .chunks-of in
+    let sums = c .before .before .before .before .before .before .sums-of in
     let measured = c .before .before .before .before .before .measure in
-    let placed = placed-of s room few rise same (found .result) (found .ensures) (measured .result) (measured .ensures) (c .before .before .before .if4 .left) in
-    unfit-judges _ _ _ (c .unfit5 .ensures) (other-base s room few rise same (found .result) (found .ensures) placed (λ e. c .before .if5 .taken (c .before .before .base-length .ensures ∙ e)))
+    let placed = c .before .before .before .if4 .left in
+    unfit-judges _ _ _ (c .unfit5 .ensures) (other-base s room few rise same (sums .result) (sums .ensures) (measured .result) (measured .ensures) placed (λ e. c .before .if5 .taken (c .before .before .base-length .ensures ∙ e)))
 
 unfit-requires-6 : tie.Need-unfit-requires-6
 unfit-requires-6 c κs = search needs
@@ -84,25 +83,24 @@ returns-6 c =
     let few = c .before .before .before .before .before .before .before .before .before .before .before .before .before .before .before .if1 .left in
     let rise = sym (c .before .before .before .before .before .before .before .before .before .before .before .before .before .positions-number .ensures) ∙ c .before .before .before .before .before .before .before .before .before .before .before .before .if2 .left in
     let same = c .before .before .before .before .before .before .before .before .before .before .if3 .left in
-    let found = c .before .before .before .before .before .before .before .before .before .chunks-of in
+    let sums = c .before .before .before .before .before .before .before .before .before .sums-of in
     let measured = c .before .before .before .before .before .before .before .before .measure in
-    let placed = placed-of s room few rise same (found .result) (found .ensures) (measured .result) (measured .ensures) (c .before .before .before .before .before .before .if4 .left) in
+    let placed = c .before .before .before .before .before .before .if4 .left in
     let based = sym (c .before .before .before .before .before .base-length .ensures) ∙ c .before .before .before .before .if5 .left in
-    unfit-judges _ _ _ (c .unfit6 .ensures) (over-taken s room few rise same (found .result) (found .ensures) placed based (c .before .if6 .taken))
+    unfit-judges _ _ _ (c .unfit6 .ensures) (over-taken s room few rise same (sums .result) (sums .ensures) (measured .result) (measured .ensures) placed based (c .before .if6 .taken))
 
 returns-7 : tie.Need-returns-7
 returns-7 c =
-    let s = c .before .before .before .before .before .before .before .before .before .before .before .before .before .before .before .before .before .before .before .args .s in
-    let room = c .before .before .before .before .before .before .before .before .before .before .before .before .before .before .before .before .before .before .before .args .room in
-    let few = c .before .before .before .before .before .before .before .before .before .before .before .before .before .before .before .if1 .left in
-    let rise = sym (c .before .before .before .before .before .before .before .before .before .before .before .before .before .positions-number .ensures) ∙ c .before .before .before .before .before .before .before .before .before .before .before .before .if2 .left in
-    let same = c .before .before .before .before .before .before .before .before .before .before .if3 .left in
-    let found = c .before .before .before .before .before .before .before .before .before .chunks-of in
-    let measured = c .before .before .before .before .before .before .before .before .measure in
-    let placed = placed-of s room few rise same (found .result) (found .ensures) (measured .result) (measured .ensures) (c .before .before .before .before .before .before .if4 .left) in
-    let based = sym (c .before .before .before .before .before .base-length .ensures) ∙ c .before .before .before .before .if5 .left in
-    let message = measured-message (s .kind) (s .base) (found .result) room (measured .result) (measured .ensures) (c .before .before .before .before .before .before .if4 .left) in
-    fit-judges s room few rise same (found .result) (found .ensures) placed based _ _ message (c .before .if6 .left) refl
+    let s = c .before .before .before .before .before .before .before .before .before .before .before .before .before .before .before .before .before .before .args .s in
+    let room = c .before .before .before .before .before .before .before .before .before .before .before .before .before .before .before .before .before .before .args .room in
+    let few = c .before .before .before .before .before .before .before .before .before .before .before .before .before .before .if1 .left in
+    let rise = sym (c .before .before .before .before .before .before .before .before .before .before .before .before .positions-number .ensures) ∙ c .before .before .before .before .before .before .before .before .before .before .before .if2 .left in
+    let same = c .before .before .before .before .before .before .before .before .before .if3 .left in
+    let sums = c .before .before .before .before .before .before .before .before .sums-of in
+    let measured = c .before .before .before .before .before .before .before .measure in
+    let placed = c .before .before .before .before .before .if4 .left in
+    let based = sym (c .before .before .before .before .base-length .ensures) ∙ c .before .before .before .if5 .left in
+    fit-judges s room few rise same (sums .result) (sums .ensures) (measured .result) (measured .ensures) placed based _ (c .if6 .left) refl
 
 pub judge-spec : {M : Type 1} → statement M
 judge-spec =
@@ -116,7 +114,7 @@ judge-spec =
     returns-2
     unfit-requires-3
     returns-3
-    chunks-of-requires
+    sums-of-requires
     measure-requires
     unfit-requires-4
     returns-4

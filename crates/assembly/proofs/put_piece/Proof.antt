@@ -1,5 +1,5 @@
 -- `assembly::put_piece` meets its contract.
-use Rattle.assembly.proofs.Taking.{known-places, known-ready, take-unfit, take-long, take-done}
+use Rattle.assembly.proofs.Taking.{known-places, take-unfit, take-long, take-done}
 use denote.Ref.{now}
 use borrow.Author.Tests.{not-true, not-false}
 use native.Mathlib.Omega.{arith}
@@ -35,36 +35,42 @@ returns-2 c =
     let k = judged .ensures .known fits in
     let pulled = k .pulled in
     let most = k .taken in
-    take-long (a .s) (now (a .piece)) (now (a .out)) (sym (judged .ensures .fits) ∙ fits) (let over = c .if2 .taken in omega arith)
+    let over = c .if2 .taken in
+    take-long (a .s) (now (a .piece)) (now (a .out)) (sym (judged .ensures .fits) ∙ fits) (omega arith)
+
+cast-n : tie.Need-cast-n
+cast-n c = search needs
 
 is-nomsg-requires : tie.Need-is-nomsg-requires
 is-nomsg-requires c κs = search needs
 
 place-requires : tie.Need-place-requires
 place-requires c κs =
-    let a = c .before .before .before .before .before .before .before .before .before .before .before .args in
-    let judged = c .before .before .before .before .before .before .before .before .judge in
-    let fits = not-false (judged .result .fits) (c .before .before .before .before .before .before .if1 .left) in
+    let a = c .before .before .before .before .before .before .before .before .before .before .before .before .before .args in
+    let judged = c .before .before .before .before .before .before .before .before .before .before .judge in
+    let fits = not-false (judged .result .fits) (c .before .before .before .before .before .before .before .before .if1 .left) in
     let k = judged .ensures .known fits in
     let pulled = k .pulled in
     let most = k .taken in
-    known-ready (a .s) _ _ (judged .result) _ k (c .is-nomsg .ensures) (let within = c .before .before .before .if2 .left in omega arith)
+    let within = c .before .before .before .before .before .if2 .left in
+    (k .count, k .laid, k .holds, rw (known-places (a .s) _ (judged .result) _ k (c .is-nomsg .ensures)) (omega arith))
 
-add-t8 : tie.Need-add-t8
-add-t8 c = search needs
+add-t10 : tie.Need-add-t10
+add-t10 c = search needs
 
 same-length : tie.Need-same-length
 same-length c = search needs
 
 returns-3 : tie.Need-returns-3
 returns-3 c =
-    let a = c .before .before .before .before .before .before .before .before .before .before .before .before .before .before .before .args in
-    let judged = c .before .before .before .before .before .before .before .before .before .before .before .before .judge in
-    let fits = not-false (judged .result .fits) (c .before .before .before .before .before .before .before .before .before .before .if1 .left) in
+    let a = c .before .before .before .before .before .before .before .before .before .before .before .before .before .before .before .before .before .args in
+    let judged = c .before .before .before .before .before .before .before .before .before .before .before .before .before .before .judge in
+    let fits = not-false (judged .result .fits) (c .before .before .before .before .before .before .before .before .before .before .before .before .if1 .left) in
     let k = judged .ensures .known fits in
     let pulled = k .pulled in
     let most = k .taken in
-    take-done (a .s) (now (a .piece)) (now (a .out)) (sym (judged .ensures .fits) ∙ fits) (let within = c .before .before .before .before .before .before .before .if2 .left in omega arith) _ (rw (known-places (a .s) _ (judged .result) _ k (c .before .before .before .before .is-nomsg .ensures)) at (c .before .before .before .place .ensures))
+    let within = c .before .before .before .before .before .before .before .before .before .if2 .left in
+    take-done (a .s) (now (a .piece)) (now (a .out)) (sym (judged .ensures .fits) ∙ fits) (omega arith) _ (rw (known-places (a .s) _ (judged .result) _ k (c .before .before .before .before .is-nomsg .ensures)) at (c .before .before .before .place .ensures))
 
 pub put-piece-spec : {M : Type 1} → statement M
 put-piece-spec =
@@ -74,8 +80,9 @@ put-piece-spec =
     returns
     sub-if2
     returns-2
+    cast-n
     is-nomsg-requires
     place-requires
-    add-t8
+    add-t10
     same-length
     returns-3)

@@ -1,6 +1,5 @@
 -- `assembly::start` meets its contract.
-use Rattle.assembly.proofs.Starting.{measured-number, chunks-ready, number-is, not-started-is, start-laid, started-is, refused-is}
-use Rattle.layout.specs.declared.Measured.{Measured}
+use Rattle.assembly.proofs.Starting.{chunks-ready, not-started-is, start-laid, started-is, refused-is}
 use Rattle.header.proofs.Lies.{found, unfound, bounds}
 use Rattle.lists.specs.Steps.{markedSegmentAt, zeroReads}
 use Rattle.lists.specs.Parsed.{each}
@@ -32,49 +31,104 @@ not-started-requires : tie.Need-not-started-requires
 not-started-requires c κs = search needs
 
 returns : tie.Need-returns
-returns c = rw (c .not-started .ensures, c .before .frame-refusal .ensures, c .before .before .enum-told .given .1) (refused-is (now (c .before .before .before .before .before .before .before .args .frame)) _ _ (now (c .before .before .before .before .before .before .before .args .out)) (unfound (now (c .before .before .before .before .before .before .before .args .frame)) _ (sym (c .before .before .before .before .walk-frame .ensures) ∙ c .before .before .enum-told .given .1)))
+returns c =
+    let frame = now (c .before .before .before .before .before .before .before .args .frame) in
+    rw (c .not-started .ensures, c .before .frame-refusal .ensures, c .before .before .enum-told .given .1) (refused-is frame _ _ (now (c .before .before .before .before .before .before .before .args .out)) (unfound frame _ (sym (c .before .before .before .before .walk-frame .ensures) ∙ c .before .before .enum-told .given .1)))
 
 sub-fill-reads : tie.Need-sub-fill-reads
-sub-fill-reads c = let b = bounds (now (c .before .before .before .before .before .before .args .frame)) (c .before .walk .given .0 .0) (found (now (c .before .before .before .before .before .before .args .frame)) (c .before .walk .given .0 .0) (sym (c .before .before .before .walk-frame .ensures) ∙ c .before .walk .given .1)) in omega arith
+sub-fill-reads c =
+    let frame = now (c .before .before .before .before .before .before .args .frame) in
+    let shape = c .before .walk .given .0 .0 in
+    let f = found frame shape (sym (c .before .before .before .walk-frame .ensures) ∙ c .before .walk .given .1) in
+    let b = bounds frame shape f in
+    omega arith
 
 part-fill-reads-start : tie.Need-part-fill-reads-start
-part-fill-reads-start c = let b = bounds (now (c .before .before .before .before .before .before .args .frame)) (c .before .walk .given .0 .0) (found (now (c .before .before .before .before .before .before .args .frame)) (c .before .walk .given .0 .0) (sym (c .before .before .before .walk-frame .ensures) ∙ c .before .walk .given .1)) in omega arith
+part-fill-reads-start c =
+    let frame = now (c .before .before .before .before .before .before .args .frame) in
+    let shape = c .before .walk .given .0 .0 in
+    let f = found frame shape (sym (c .before .before .before .walk-frame .ensures) ∙ c .before .walk .given .1) in
+    let b = bounds frame shape f in
+    omega arith
 
 part-fill-reads-end : tie.Need-part-fill-reads-end
 part-fill-reads-end c = search needs
 
 fill-reads-requires : tie.Need-fill-reads-requires
-fill-reads-requires c κs = let b = bounds (now (c .before .before .before .before .before .before .before .args .frame)) (c .before .before .walk .given .0 .0) (found (now (c .before .before .before .before .before .before .before .args .frame)) (c .before .before .walk .given .0 .0) (sym (c .before .before .before .before .walk-frame .ensures) ∙ c .before .before .walk .given .1)) in (b .reads-few, rw part-from (omega (arith, length-drop 16 (now (c .before .before .before .before .before .before .before .args .frame)))))
+fill-reads-requires c κs =
+    let frame = now (c .before .before .before .before .before .before .before .args .frame) in
+    let shape = c .before .before .walk .given .0 .0 in
+    let f = found frame shape (sym (c .before .before .before .before .walk-frame .ensures) ∙ c .before .before .walk .given .1) in
+    let b = bounds frame shape f in
+    (b .reads-few, rw part-from (omega (arith, length-drop 16 frame)))
 
-chunks-of-requires : tie.Need-chunks-of-requires
-chunks-of-requires c κs = chunks-ready (now (c .before .before .before .before .before .before .before .before .args .frame)) (c .before .before .before .walk .given .0 .0) (found (now (c .before .before .before .before .before .before .before .before .args .frame)) (c .before .before .before .walk .given .0 .0) (sym (c .before .before .before .before .before .walk-frame .ensures) ∙ c .before .before .before .walk .given .1)) (c .fill-reads .result) (c .fill-reads .ensures ∙ ap (λ (u : List ℕ). stored zeroReads 0 (each 24 markedSegmentAt (c .before .before .before .walk .given .0 .0 .reads) u)) (part-from 16 (now (c .before .before .before .before .before .before .before .before .args .frame))))
+sums-of-requires : tie.Need-sums-of-requires
+sums-of-requires c κs =
+    let frame = now (c .before .before .before .before .before .before .before .before .args .frame) in
+    let shape = c .before .before .before .walk .given .0 .0 in
+    bounds frame shape (found frame shape (sym (c .before .before .before .before .before .walk-frame .ensures) ∙ c .before .before .before .walk .given .1)) .reads-few
 
 sub-base-length : tie.Need-sub-base-length
-sub-base-length c = let b = bounds (now (c .before .before .before .before .before .before .before .before .before .args .frame)) (c .before .before .before .before .walk .given .0 .0) (found (now (c .before .before .before .before .before .before .before .before .before .args .frame)) (c .before .before .before .before .walk .given .0 .0) (sym (c .before .before .before .before .before .before .walk-frame .ensures) ∙ c .before .before .before .before .walk .given .1)) in b .end-short
+sub-base-length c =
+    let frame = now (c .before .before .before .before .before .before .before .before .before .args .frame) in
+    let shape = c .before .before .before .before .walk .given .0 .0 in
+    let f = found frame shape (sym (c .before .before .before .before .before .before .walk-frame .ensures) ∙ c .before .before .before .before .walk .given .1) in
+    let b = bounds frame shape f in
+    b .end-short
 
 base-length-requires : tie.Need-base-length-requires
 base-length-requires c κs = search needs
 
 measure-requires : tie.Need-measure-requires
-measure-requires c κs = search needs
+measure-requires c κs =
+    let frame = now (c .before .before .before .before .before .before .before .before .before .before .args .frame) in
+    let shape = c .before .before .before .before .before .walk .given .0 .0 in
+    let f = found frame shape (sym (c .before .before .before .before .before .before .before .walk-frame .ensures) ∙ c .before .before .before .before .before .walk .given .1) in
+    let b = bounds frame shape f in
+    let filled = c .before .before .fill-reads .ensures ∙ ap (λ (u : List ℕ). stored zeroReads 0 (each 24 markedSegmentAt (shape .reads) u)) (part-from 16 frame) in
+    chunks-ready frame shape f (c .before .before .fill-reads .result) filled
 
 not-started-requires-2 : tie.Need-not-started-requires-2
 not-started-requires-2 c κs = search needs
 
 returns-2 : tie.Need-returns-2
-returns-2 c = let n = (ap (λ (m : Measured). m .number) (c .before .before .before .measure .ensures) ∙ measured-number (c .before .before .before .before .before .before .before .before .before .walk .given .0 .0 .kind) (c .before .before .before .before .base-length .result) (c .before .before .before .before .before .chunks-of .result) (length (now (c .before .before .before .before .before .before .before .before .before .before .before .before .before .before .args .out)))) ∙ number-is (now (c .before .before .before .before .before .before .before .before .before .before .before .before .before .before .args .frame)) (c .before .before .before .before .before .before .before .before .before .walk .given .0 .0) (found (now (c .before .before .before .before .before .before .before .before .before .before .before .before .before .before .args .frame)) (c .before .before .before .before .before .before .before .before .before .walk .given .0 .0) (sym (c .before .before .before .before .before .before .before .before .before .before .before .walk-frame .ensures) ∙ c .before .before .before .before .before .before .before .before .before .walk .given .1)) (c .before .before .before .before .before .before .fill-reads .result) (c .before .before .before .before .before .before .fill-reads .ensures ∙ ap (λ (u : List ℕ). stored zeroReads 0 (each 24 markedSegmentAt (c .before .before .before .before .before .before .before .before .before .walk .given .0 .0 .reads) u)) (part-from 16 (now (c .before .before .before .before .before .before .before .before .before .before .before .before .before .before .args .frame)))) (c .before .before .before .before .before .chunks-of .result) (c .before .before .before .before .before .chunks-of .ensures) (c .before .before .before .before .base-length .result) (c .before .before .before .before .base-length .ensures) (length (now (c .before .before .before .before .before .before .before .before .before .before .before .before .before .before .args .out))) in rw (c .not-started2 .ensures) (not-started-is (now (c .before .before .before .before .before .before .before .before .before .before .before .before .before .before .args .frame)) (c .before .before .before .before .before .before .before .before .before .walk .given .0 .0) (found (now (c .before .before .before .before .before .before .before .before .before .before .before .before .before .before .args .frame)) (c .before .before .before .before .before .before .before .before .before .walk .given .0 .0) (sym (c .before .before .before .before .before .before .before .before .before .before .before .walk-frame .ensures) ∙ c .before .before .before .before .before .before .before .before .before .walk .given .1)) (c .before .before .before .before .before .before .fill-reads .result) (c .before .before .before .before .before .before .fill-reads .ensures ∙ ap (λ (u : List ℕ). stored zeroReads 0 (each 24 markedSegmentAt (c .before .before .before .before .before .before .before .before .before .walk .given .0 .0 .reads) u)) (part-from 16 (now (c .before .before .before .before .before .before .before .before .before .before .before .before .before .before .args .frame)))) (c .before .before .before .before .before .chunks-of .result) (c .before .before .before .before .before .chunks-of .ensures) (c .before .before .before .before .base-length .result) (c .before .before .before .before .base-length .ensures) (length (now (c .before .before .before .before .before .before .before .before .before .before .before .before .before .before .args .out))) (c .before .before .before .measure .result .number) n (c .before .if1 .taken) (now (c .before .before .before .before .before .before .before .before .before .before .before .before .before .before .args .out)) refl)
+returns-2 c =
+    let frame = now (c .before .before .before .before .before .before .before .before .before .before .before .before .before .before .args .frame) in
+    let shape = c .before .before .before .before .before .before .before .before .before .walk .given .0 .0 in
+    let f = found frame shape (sym (c .before .before .before .before .before .before .before .before .before .before .before .walk-frame .ensures) ∙ c .before .before .before .before .before .before .before .before .before .walk .given .1) in
+    let b = bounds frame shape f in
+    let filled = c .before .before .before .before .before .before .fill-reads .ensures ∙ ap (λ (u : List ℕ). stored zeroReads 0 (each 24 markedSegmentAt (shape .reads) u)) (part-from 16 frame) in
+    rw (c .not-started2 .ensures) (not-started-is frame shape f (c .before .before .before .before .before .before .fill-reads .result) filled (c .before .before .before .before .before .sums-of .result) (c .before .before .before .before .before .sums-of .ensures) (c .before .before .before .before .base-length .result) (c .before .before .before .before .base-length .ensures) (length (now (c .before .before .before .before .before .before .before .before .before .before .before .before .before .before .args .out))) (c .before .before .before .measure .result) (c .before .before .before .measure .ensures) (c .before .if1 .taken) (now (c .before .before .before .before .before .before .before .before .before .before .before .before .before .before .args .out)) refl)
 
 lay-requires : tie.Need-lay-requires
-lay-requires c κs = let b = bounds (now (c .before .before .before .before .before .before .before .before .before .before .before .before .before .before .args .frame)) (c .before .before .before .before .before .before .before .before .before .walk .given .0 .0) (found (now (c .before .before .before .before .before .before .before .before .before .before .before .before .before .before .args .frame)) (c .before .before .before .before .before .before .before .before .before .walk .given .0 .0) (sym (c .before .before .before .before .before .before .before .before .before .before .before .walk-frame .ensures) ∙ c .before .before .before .before .before .before .before .before .before .walk .given .1)) in let l = start-laid (now (c .before .before .before .before .before .before .before .before .before .before .before .before .before .before .args .frame)) (c .before .before .before .before .before .before .before .before .before .walk .given .0 .0) (found (now (c .before .before .before .before .before .before .before .before .before .before .before .before .before .before .args .frame)) (c .before .before .before .before .before .before .before .before .before .walk .given .0 .0) (sym (c .before .before .before .before .before .before .before .before .before .before .before .walk-frame .ensures) ∙ c .before .before .before .before .before .before .before .before .before .walk .given .1)) (c .before .before .before .before .before .before .fill-reads .result) (c .before .before .before .before .before .before .fill-reads .ensures ∙ ap (λ (u : List ℕ). stored zeroReads 0 (each 24 markedSegmentAt (c .before .before .before .before .before .before .before .before .before .walk .given .0 .0 .reads) u)) (part-from 16 (now (c .before .before .before .before .before .before .before .before .before .before .before .before .before .before .args .frame)))) (c .before .before .before .before .before .chunks-of .result) (c .before .before .before .before .before .chunks-of .ensures) (c .before .before .before .before .base-length .result) (c .before .before .before .before .base-length .ensures) (length (now (c .before .before .before .before .before .before .before .before .before .before .before .before .before .before .args .out))) (sym (ap (λ (m : Measured). m .number) (c .before .before .before .measure .ensures) ∙ measured-number (c .before .before .before .before .before .before .before .before .before .walk .given .0 .0 .kind) (c .before .before .before .before .base-length .result) (c .before .before .before .before .before .chunks-of .result) (length (now (c .before .before .before .before .before .before .before .before .before .before .before .before .before .before .args .out)))) ∙ c .before .if1 .left) in (c .before .before .before .before .before .chunks-of .ensures .count, l .0, l .1, b .end-short, l .2)
+lay-requires c κs =
+    let frame = now (c .before .before .before .before .before .before .before .before .before .before .before .before .before .before .args .frame) in
+    let shape = c .before .before .before .before .before .before .before .before .before .walk .given .0 .0 in
+    let f = found frame shape (sym (c .before .before .before .before .before .before .before .before .before .before .before .walk-frame .ensures) ∙ c .before .before .before .before .before .before .before .before .before .walk .given .1) in
+    let b = bounds frame shape f in
+    let filled = c .before .before .before .before .before .before .fill-reads .ensures ∙ ap (λ (u : List ℕ). stored zeroReads 0 (each 24 markedSegmentAt (shape .reads) u)) (part-from 16 frame) in
+    let l = start-laid frame shape f (c .before .before .before .before .before .before .fill-reads .result) filled (c .before .before .before .before .before .sums-of .result) (c .before .before .before .before .before .sums-of .ensures) (c .before .before .before .before .base-length .result) (c .before .before .before .before .base-length .ensures) (length (now (c .before .before .before .before .before .before .before .before .before .before .before .before .before .before .args .out))) (c .before .before .before .measure .result) (c .before .before .before .measure .ensures) (c .before .if1 .left) in
+    (b .reads-few, l .0, l .1, b .end-short, l .2)
 
 cast-t23 : tie.Need-cast-t23
-cast-t23 c = let b = bounds (now (c .before .before .before .before .before .before .before .before .before .before .before .before .before .before .before .before .before .args .frame)) (c .before .before .before .before .before .before .before .before .before .before .before .before .walk .given .0 .0) (found (now (c .before .before .before .before .before .before .before .before .before .before .before .before .before .before .before .before .before .args .frame)) (c .before .before .before .before .before .before .before .before .before .before .before .before .walk .given .0 .0) (sym (c .before .before .before .before .before .before .before .before .before .before .before .before .before .before .walk-frame .ensures) ∙ c .before .before .before .before .before .before .before .before .before .before .before .before .walk .given .1)) in omega arith
+cast-t23 c =
+    let frame = now (c .before .before .before .before .before .before .before .before .before .before .before .before .before .before .before .before .before .args .frame) in
+    let shape = c .before .before .before .before .before .before .before .before .before .before .before .before .walk .given .0 .0 in
+    let f = found frame shape (sym (c .before .before .before .before .before .before .before .before .before .before .before .before .before .before .walk-frame .ensures) ∙ c .before .before .before .before .before .before .before .before .before .before .before .before .walk .given .1) in
+    let b = bounds frame shape f in
+    omega arith
 
 same-length : tie.Need-same-length
 same-length c = search needs
 
 returns-3 : tie.Need-returns-3
-returns-3 c = started-is (now (c .before .before .before .before .before .before .before .before .before .before .before .before .before .before .before .before .before .args .frame)) (c .before .before .before .before .before .before .before .before .before .before .before .before .walk .given .0 .0) (found (now (c .before .before .before .before .before .before .before .before .before .before .before .before .before .before .before .before .before .args .frame)) (c .before .before .before .before .before .before .before .before .before .before .before .before .walk .given .0 .0) (sym (c .before .before .before .before .before .before .before .before .before .before .before .before .before .before .walk-frame .ensures) ∙ c .before .before .before .before .before .before .before .before .before .before .before .before .walk .given .1)) (c .before .before .before .before .before .before .before .before .before .fill-reads .result) (c .before .before .before .before .before .before .before .before .before .fill-reads .ensures ∙ ap (λ (u : List ℕ). stored zeroReads 0 (each 24 markedSegmentAt (c .before .before .before .before .before .before .before .before .before .before .before .before .walk .given .0 .0 .reads) u)) (part-from 16 (now (c .before .before .before .before .before .before .before .before .before .before .before .before .before .before .before .before .before .args .frame)))) (c .before .before .before .before .before .before .before .before .chunks-of .result) (c .before .before .before .before .before .before .before .before .chunks-of .ensures) (c .before .before .before .before .before .before .before .base-length .result) (c .before .before .before .before .before .before .before .base-length .ensures) (length (now (c .before .before .before .before .before .before .before .before .before .before .before .before .before .before .before .before .before .args .out))) (sym (ap (λ (m : Measured). m .number) (c .before .before .before .before .before .before .measure .ensures) ∙ measured-number (c .before .before .before .before .before .before .before .before .before .before .before .before .walk .given .0 .0 .kind) (c .before .before .before .before .before .before .before .base-length .result) (c .before .before .before .before .before .before .before .before .chunks-of .result) (length (now (c .before .before .before .before .before .before .before .before .before .before .before .before .before .before .before .before .before .args .out)))) ∙ c .before .before .before .before .if1 .left) (now (c .before .before .before .before .before .before .before .before .before .before .before .before .before .before .before .before .before .args .out)) _ refl (c .before .before .lay .ensures)
+returns-3 c =
+    let frame = now (c .before .before .before .before .before .before .before .before .before .before .before .before .before .before .before .before .before .args .frame) in
+    let shape = c .before .before .before .before .before .before .before .before .before .before .before .before .walk .given .0 .0 in
+    let f = found frame shape (sym (c .before .before .before .before .before .before .before .before .before .before .before .before .before .before .walk-frame .ensures) ∙ c .before .before .before .before .before .before .before .before .before .before .before .before .walk .given .1) in
+    let b = bounds frame shape f in
+    let filled = c .before .before .before .before .before .before .before .before .before .fill-reads .ensures ∙ ap (λ (u : List ℕ). stored zeroReads 0 (each 24 markedSegmentAt (shape .reads) u)) (part-from 16 frame) in
+    started-is frame shape f (c .before .before .before .before .before .before .before .before .before .fill-reads .result) filled (c .before .before .before .before .before .before .before .before .sums-of .result) (c .before .before .before .before .before .before .before .before .sums-of .ensures) (c .before .before .before .before .before .before .before .base-length .result) (c .before .before .before .before .before .before .before .base-length .ensures) (length (now (c .before .before .before .before .before .before .before .before .before .before .before .before .before .before .before .before .before .args .out))) (c .before .before .before .before .before .before .measure .result) (c .before .before .before .before .before .before .measure .ensures) (c .before .before .before .before .if1 .left) (now (c .before .before .before .before .before .before .before .before .before .before .before .before .before .before .before .before .before .args .out)) _ refl (c .before .before .lay .ensures)
 
 pub start-spec : {M : Type 1} → statement M
 start-spec =
@@ -90,7 +144,7 @@ start-spec =
     part-fill-reads-start
     part-fill-reads-end
     fill-reads-requires
-    chunks-of-requires
+    sums-of-requires
     sub-base-length
     base-length-requires
     measure-requires

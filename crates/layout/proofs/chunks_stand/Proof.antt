@@ -1,47 +1,138 @@
 -- `layout::chunks_stand` meets its contract.
-use Rattle.layout.proofs.Stood.{Stood, stood-start, stood-next, stood-overlaps, stood-past, stood-small, stood-all}
-use Rattle.layout.specs.Layout.{run}
-use lib.Seq.{length-take-le, getD-take}
-use lib.ListN.{length, take}
-use borrow.Author.Needs.{needs}
-use native.Mathlib.Omega.{arith}
-use Prim.Native.Nat.{_≤_, _-_}
+use lib.ListN.{getD}
+use Rattle.wire.specs.Wire.{zeroReadSegment}
+use Rattle.layout.specs.Walks.{endedLength}
+use Rattle.layout.specs.Layout.{roundedUp}
+use Rattle.layout.proofs.Stood.{Stood, stood-start, stood-next, stood-overlaps, stood-past, stood-all}
 use mathlib.Core.Path.{_≡_, sym}
+use Prim.Native.Nat.{_+_, _≤_, _-_}
+use native.Mathlib.Omega.{arith}
+use borrow.Author.Needs.{needs}
+use lib.ListN.{length, take, drop}
+use Rattle.layout.specs.Layout.{otherChunks}
+use Rattle.layout.proofs.Remaining.{Along, along-start, next-here, no-more, walk-here, ended-most, along-next}
 use Rattle.layout.proofs.chunks_stand.Statement.{statement}
 use Rattle.layout.proofs.chunks_stand.Tie as tie
 
 abbrev Inv-loop : tie.InvT-loop
-Inv-loop count base runs end₀ earlier₀ i₀ end earlier i = (i ≤ count) × Stood base (take count runs) end earlier i
+Inv-loop n base segments w₀ earlier₀ i₀ w earlier i = (i ≤ n) × Along (take n segments) i earlier w × Stood base (otherChunks (take n segments)) w earlier (drop i (take n segments))
 
 abbrev μ-loop : tie.MeasureT-loop
-μ-loop count base runs end₀ earlier₀ i₀ end earlier i = count - i
+μ-loop n base segments w₀ earlier₀ i₀ w earlier i = n - i
 
 loop-holds : tie.Need-loop-holds Inv-loop μ-loop
-loop-holds c = (search needs, stood-start _ _)
+loop-holds c = (search needs, along-start _ (c .pre .1), stood-start _ _)
 
-mul-c : tie.Need-mul-c Inv-loop μ-loop
-mul-c c = search needs
+mul-x : tie.Need-mul-x Inv-loop μ-loop
+mul-x c = search needs
 
-array-copy-out-c : tie.Need-array-copy-out-c Inv-loop μ-loop
-array-copy-out-c c = search needs
+array-copy-out-x : tie.Need-array-copy-out-x Inv-loop μ-loop
+array-copy-out-x c = search needs
 
-returns : tie.Need-returns Inv-loop μ-loop
-returns c = let a = c .before .before .before .before .before .args in let full : length (a .t1) ≡ 16 = search needs in let long = length-take-le (a .count) (a .t1) (omega arith) in let w = c .before .before .before .before .loop .inv .1 in let at-run = getD-take (a .count) (a .t1) (c .before .before .before .before .loop .i) (run 0 0) (c .before .before .before .loop-test .taken) in sym (stood-overlaps _ _ _ _ _ (omega arith) w (rw at-run (c .if1 .taken)))
+wide-requires : tie.Need-wide-requires Inv-loop μ-loop
+wide-requires c κs = search needs
 
-sub-if2 : tie.Need-sub-if2 Inv-loop μ-loop
-sub-if2 c = let below = c .before .before .before .before .before .loop .inv .1 .below in omega arith
-
-returns-2 : tie.Need-returns-2 Inv-loop μ-loop
-returns-2 c = let a = c .before .before .before .before .before .before .before .args in let full : length (a .t1) ≡ 16 = search needs in let long = length-take-le (a .count) (a .t1) (omega arith) in let w = c .before .before .before .before .before .before .loop .inv .1 in let at-run = getD-take (a .count) (a .t1) (c .before .before .before .before .before .before .loop .i) (run 0 0) (c .before .before .before .before .before .loop-test .taken) in sym (stood-past _ _ _ _ _ (omega arith) w (rw at-run (c .before .before .if1 .left)) (rw at-run (c .if2 .taken)))
+ended-requires : tie.Need-ended-requires Inv-loop μ-loop
+ended-requires c κs = search needs
 
 rounded-requires : tie.Need-rounded-requires Inv-loop μ-loop
-rounded-requires c κs = let a = c .before .before .before .before .before .before .before .args in let full : length (a .t1) ≡ 16 = search needs in let long = length-take-le (a .count) (a .t1) (omega arith) in let w = c .before .before .before .before .before .before .loop .inv .1 in let at-run = getD-take (a .count) (a .t1) (c .before .before .before .before .before .before .loop .i) (run 0 0) (c .before .before .before .before .before .loop-test .taken) in let small = rw at-run at (stood-small _ _ _ _ _ (omega arith) w (c .before .before .before .before .before .before .before .pre .1) (omega arith)) in small .1
+rounded-requires c κs = let a = c .before .before .before .before .before .args in
+    let few = c .before .before .before .before .before .pre .0 in
+    let full : length (a .t1) ≡ 16 = search needs in
+    let at = c .before .before .before .before .loop in
+    let rest = next-here (a .n) (at .i) (a .t1) full few (c .before .before .before .loop-test .taken) in
+    let along = at .inv .1 in
+    let walk = walk-here (take (a .n) (a .t1)) (at .i) _ (at .w) _ rest along in
+    let most = ended-most (take (a .n) (a .t1)) (at .i) _ (at .w) _ rest along in
+    let sum = along .low .sum in
+    rw (c .ended .ensures) (omega arith)
 
-add-end : tie.Need-add-end Inv-loop μ-loop
-add-end c = let a = c .before .before .before .before .before .before .before .before .before .args in let full : length (a .t1) ≡ 16 = search needs in let long = length-take-le (a .count) (a .t1) (omega arith) in let w = c .before .before .before .before .before .before .before .before .loop .inv .1 in let at-run = getD-take (a .count) (a .t1) (c .before .before .before .before .before .before .before .before .loop .i) (run 0 0) (c .before .before .before .before .before .before .before .loop-test .taken) in let small = rw at-run at (stood-small _ _ _ _ _ (omega arith) w (c .before .before .before .before .before .before .before .before .before .pre .1) (omega arith)) in omega (arith, small .0, small .1)
+add-if1 : tie.Need-add-if1 Inv-loop μ-loop
+add-if1 c = let a = c .before .before .before .before .before .before .before .args in
+    let few = c .before .before .before .before .before .before .before .pre .0 in
+    let full : length (a .t1) ≡ 16 = search needs in
+    let at = c .before .before .before .before .before .before .loop in
+    let rest = next-here (a .n) (at .i) (a .t1) full few (c .before .before .before .before .before .loop-test .taken) in
+    let along = at .inv .1 in
+    let walk = walk-here (take (a .n) (a .t1)) (at .i) _ (at .w) _ rest along in
+    let most = ended-most (take (a .n) (a .t1)) (at .i) _ (at .w) _ rest along in
+    let sum = along .low .sum in
+    let up = along .low .at in let r = c .before .rounded .ensures .2 in let e = c .before .before .ended .ensures in omega arith
+
+returns : tie.Need-returns Inv-loop μ-loop
+returns c = let a = c .before .before .before .before .before .before .before .before .args in
+    let few = c .before .before .before .before .before .before .before .before .pre .0 in
+    let full : length (a .t1) ≡ 16 = search needs in
+    let at = c .before .before .before .before .before .before .before .loop in
+    let rest = next-here (a .n) (at .i) (a .t1) full few (c .before .before .before .before .before .before .loop-test .taken) in
+    let along = at .inv .1 in
+    let walk = walk-here (take (a .n) (a .t1)) (at .i) _ (at .w) _ rest along in
+    let most = ended-most (take (a .n) (a .t1)) (at .i) _ (at .w) _ rest along in
+    let sum = along .low .sum in
+    let stood = rw rest at (at .inv .2) in
+    let below = stood .below in
+    let behind = stood .behind in
+    let size : c .before .before .rounded .result ≡ roundedUp (endedLength (at .w) (getD (a .t1) (at .i) zeroReadSegment)) = rw (← (c .before .before .before .ended .ensures)) (c .before .before .rounded .ensures .0) in
+    let position = c .before .before .before .before .wide .ensures .0 in
+    sym (stood-overlaps _ _ _ _ _ _ walk stood _ size (rw position at (c .if1 .taken)))
 
 add-earlier : tie.Need-add-earlier Inv-loop μ-loop
-add-earlier c = let a = c .before .before .before .before .before .before .before .before .before .args in let full : length (a .t1) ≡ 16 = search needs in let long = length-take-le (a .count) (a .t1) (omega arith) in let w = c .before .before .before .before .before .before .before .before .loop .inv .1 in let at-run = getD-take (a .count) (a .t1) (c .before .before .before .before .before .before .before .before .loop .i) (run 0 0) (c .before .before .before .before .before .before .before .loop-test .taken) in let small = rw at-run at (stood-small _ _ _ _ _ (omega arith) w (c .before .before .before .before .before .before .before .before .before .pre .1) (omega arith)) in omega (arith, small .1, small .2)
+add-earlier c = let a = c .before .before .before .before .before .before .before .before .args in
+    let few = c .before .before .before .before .before .before .before .before .pre .0 in
+    let full : length (a .t1) ≡ 16 = search needs in
+    let at = c .before .before .before .before .before .before .before .loop in
+    let rest = next-here (a .n) (at .i) (a .t1) full few (c .before .before .before .before .before .before .loop-test .taken) in
+    let along = at .inv .1 in
+    let walk = walk-here (take (a .n) (a .t1)) (at .i) _ (at .w) _ rest along in
+    let most = ended-most (take (a .n) (a .t1)) (at .i) _ (at .w) _ rest along in
+    let sum = along .low .sum in
+    let r = c .before .before .rounded .ensures .2 in let e = c .before .before .before .ended .ensures in omega arith
+
+sub-if2 : tie.Need-sub-if2 Inv-loop μ-loop
+sub-if2 c = let a = c .before .before .before .before .before .before .before .before .args in
+    let few = c .before .before .before .before .before .before .before .before .pre .0 in
+    let full : length (a .t1) ≡ 16 = search needs in
+    let at = c .before .before .before .before .before .before .before .loop in
+    let rest = next-here (a .n) (at .i) (a .t1) full few (c .before .before .before .before .before .before .loop-test .taken) in
+    let along = at .inv .1 in
+    let walk = walk-here (take (a .n) (a .t1)) (at .i) _ (at .w) _ rest along in
+    let most = ended-most (take (a .n) (a .t1)) (at .i) _ (at .w) _ rest along in
+    let sum = along .low .sum in
+    let stood = rw rest at (at .inv .2) in
+    let below = stood .below in
+    let behind = stood .behind in
+    let size : c .before .before .rounded .result ≡ roundedUp (endedLength (at .w) (getD (a .t1) (at .i) zeroReadSegment)) = rw (← (c .before .before .before .ended .ensures)) (c .before .before .rounded .ensures .0) in
+    let position = c .before .before .before .before .wide .ensures .0 in
+    omega arith
+
+returns-2 : tie.Need-returns-2 Inv-loop μ-loop
+returns-2 c = let a = c .before .before .before .before .before .before .before .before .before .args in
+    let few = c .before .before .before .before .before .before .before .before .before .pre .0 in
+    let full : length (a .t1) ≡ 16 = search needs in
+    let at = c .before .before .before .before .before .before .before .before .loop in
+    let rest = next-here (a .n) (at .i) (a .t1) full few (c .before .before .before .before .before .before .before .loop-test .taken) in
+    let along = at .inv .1 in
+    let walk = walk-here (take (a .n) (a .t1)) (at .i) _ (at .w) _ rest along in
+    let most = ended-most (take (a .n) (a .t1)) (at .i) _ (at .w) _ rest along in
+    let sum = along .low .sum in
+    let stood = rw rest at (at .inv .2) in
+    let below = stood .below in
+    let behind = stood .behind in
+    let size : c .before .before .before .rounded .result ≡ roundedUp (endedLength (at .w) (getD (a .t1) (at .i) zeroReadSegment)) = rw (← (c .before .before .before .before .ended .ensures)) (c .before .before .before .rounded .ensures .0) in
+    let position = c .before .before .before .before .before .wide .ensures .0 in
+    sym (stood-past _ _ _ _ _ _ walk stood _ size (rw position at (c .before .if1 .left)) (rw position at (c .if2 .taken)))
+
+joined-requires : tie.Need-joined-requires Inv-loop μ-loop
+joined-requires c κs = let a = c .before .before .before .before .before .before .before .before .before .args in
+    let few = c .before .before .before .before .before .before .before .before .before .pre .0 in
+    let full : length (a .t1) ≡ 16 = search needs in
+    let at = c .before .before .before .before .before .before .before .before .loop in
+    let rest = next-here (a .n) (at .i) (a .t1) full few (c .before .before .before .before .before .before .before .loop-test .taken) in
+    let along = at .inv .1 in
+    let walk = walk-here (take (a .n) (a .t1)) (at .i) _ (at .w) _ rest along in
+    let most = ended-most (take (a .n) (a .t1)) (at .i) _ (at .w) _ rest along in
+    let sum = along .low .sum in
+    omega arith
 
 add-i : tie.Need-add-i Inv-loop μ-loop
 add-i c = search needs
@@ -50,10 +141,61 @@ loop-less : tie.Need-loop-less Inv-loop μ-loop
 loop-less c = search needs
 
 loop-again : tie.Need-loop-again Inv-loop μ-loop
-loop-again c = let a = c .before .before .before .before .before .before .before .before .before .args in let full : length (a .t1) ≡ 16 = search needs in let long = length-take-le (a .count) (a .t1) (omega arith) in let w = c .before .before .before .before .before .before .before .before .loop .inv .1 in let at-run = getD-take (a .count) (a .t1) (c .before .before .before .before .before .before .before .before .loop .i) (run 0 0) (c .before .before .before .before .before .before .before .loop-test .taken) in (search needs, rw at-run at (stood-next _ _ _ _ _ (omega arith) w (c .before .rounded .result) (rw at-run (c .before .rounded .ensures .0)) (rw at-run (c .before .before .before .before .if1 .left)) (rw at-run (c .before .before .if2 .left))))
+loop-again c = let a = c .before .before .before .before .before .before .before .before .before .before .args in
+    let few = c .before .before .before .before .before .before .before .before .before .before .pre .0 in
+    let full : length (a .t1) ≡ 16 = search needs in
+    let at = c .before .before .before .before .before .before .before .before .before .loop in
+    let rest = next-here (a .n) (at .i) (a .t1) full few (c .before .before .before .before .before .before .before .before .loop-test .taken) in
+    let along = at .inv .1 in
+    let walk = walk-here (take (a .n) (a .t1)) (at .i) _ (at .w) _ rest along in
+    let most = ended-most (take (a .n) (a .t1)) (at .i) _ (at .w) _ rest along in
+    let sum = along .low .sum in
+    let stood = rw rest at (at .inv .2) in
+    let below = stood .below in
+    let behind = stood .behind in
+    let size : c .before .before .before .before .rounded .result ≡ roundedUp (endedLength (at .w) (getD (a .t1) (at .i) zeroReadSegment)) = rw (← (c .before .before .before .before .before .ended .ensures)) (c .before .before .before .before .rounded .ensures .0) in
+    let position = c .before .before .before .before .before .before .wide .ensures .0 in
+    let grown : c .before .before .before .before .rounded .result ≤ endedLength (at .w) (getD (a .t1) (at .i) zeroReadSegment) + 3 = rw (← (c .before .before .before .before .before .ended .ensures)) (c .before .before .before .before .rounded .ensures .2) in
+    (search needs, along-next (take (a .n) (a .t1)) (at .i) _ (at .w) _ rest along _ _ grown (c .joined .ensures .0) (c .joined .ensures .1), rw (c .joined .ensures .0) (stood-next _ _ _ _ _ _ walk stood _ size (rw position at (c .before .before .if1 .left)) (rw position at (c .before .if2 .left))))
+
+rounded-requires-2 : tie.Need-rounded-requires-2 Inv-loop μ-loop
+rounded-requires-2 c κs = let a = c .before .before .args in
+    let few = c .before .before .pre .0 in
+    let full : length (a .t1) ≡ 16 = search needs in
+    let at = c .before .loop in
+    let end : at .i ≡ a .n = omega arith in
+    let none = no-more (a .n) (at .i) (a .t1) full few end in
+    let along = at .inv .1 in
+    let walk = rw none at (along .walk) in
+    let sum = along .low .sum in
+    let low = along .low .at in
+    omega arith
+
+add-t17 : tie.Need-add-t17 Inv-loop μ-loop
+add-t17 c = let a = c .before .before .before .args in
+    let few = c .before .before .before .pre .0 in
+    let full : length (a .t1) ≡ 16 = search needs in
+    let at = c .before .before .loop in
+    let end : at .i ≡ a .n = omega arith in
+    let none = no-more (a .n) (at .i) (a .t1) full few end in
+    let along = at .inv .1 in
+    let walk = rw none at (along .walk) in
+    let sum = along .low .sum in
+    let low = along .low .at in
+    let r = c .rounded2 .ensures .2 in omega arith
 
 returns-3 : tie.Need-returns-3 Inv-loop μ-loop
-returns-3 c = let a = c .before .before .args in let full : length (a .t1) ≡ 16 = search needs in let long = length-take-le (a .count) (a .t1) (omega arith) in let w = c .before .loop .inv .1 in stood-all _ _ _ _ _ (omega arith) w
+returns-3 c = let a = c .before .before .before .args in
+    let few = c .before .before .before .pre .0 in
+    let full : length (a .t1) ≡ 16 = search needs in
+    let at = c .before .before .loop in
+    let end : at .i ≡ a .n = omega arith in
+    let none = no-more (a .n) (at .i) (a .t1) full few end in
+    let along = at .inv .1 in
+    let walk = rw none at (along .walk) in
+    let sum = along .low .sum in
+    let low = along .low .at in
+    stood-all _ _ _ _ _ walk (rw none at (at .inv .2)) (c .rounded2 .ensures .0)
 
 pub chunks-stand-spec : {M : Type 1} → statement M
 chunks-stand-spec =
@@ -62,15 +204,20 @@ chunks-stand-spec =
     Inv-loop
     μ-loop
     loop-holds
-    mul-c
-    array-copy-out-c
+    mul-x
+    array-copy-out-x
+    wide-requires
+    ended-requires
+    rounded-requires
+    add-if1
     returns
+    add-earlier
     sub-if2
     returns-2
-    rounded-requires
-    add-end
-    add-earlier
+    joined-requires
     add-i
     loop-less
     loop-again
+    rounded-requires-2
+    add-t17
     returns-3)

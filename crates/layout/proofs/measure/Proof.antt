@@ -1,9 +1,9 @@
 -- `layout::measure` meets its contract.
-use Rattle.layout.proofs.Stood.{stands-told, overlaps-told, rounded-small}
-use Rattle.layout.specs.Walks.{found, measuredOf}
-use Rattle.layout.specs.Layout.{messageLength, placeNumber}
+use Rattle.layout.proofs.Stood.{stands-told, overlaps-told}
+use Rattle.layout.specs.Walks.{measuredOf}
+use Rattle.layout.specs.Layout.{otherChunks, messageLength, placeNumber}
 use borrow.Author.Tests.{le-leb, lt-leb, eq-eqb, ne-eqb, not-true, not-false}
-use lib.ListN.{length-take}
+use lib.ListN.{take}
 use native.Mathlib.Omega.{arith}
 use mathlib.Core.Path.{sym, _∙_}
 use borrow.Author.Needs.{needs}
@@ -41,35 +41,74 @@ refused-requires-3 c κs = search needs
 
 returns-3 : tie.Need-returns-3
 unfolding measuredOf placeNumber
-returns-3 c = c .refused3 .ensures ∙ simp (← (c .before .before .before .before .before .before .before .kind-fits .ensures), not-false (c .before .before .before .before .before .before .before .kind-fits .result) (c .before .before .before .before .before .before .if1 .left), eq-eqb _ _ (c .before .before .before .before .before .if2 .left), overlaps-told _ _ (sym (c .before .before .before .chunks-stand .ensures) ∙ c .before .enum-told .given .1))
+returns-3 c =
+    let fits = c .before .before .before .before .before .before .kind-fits in
+    let kind = not-false (fits .result) (c .before .before .before .before .before .if1 .left) in
+    let aligned = eq-eqb _ _ (c .before .before .before .before .if2 .left) in
+    c .refused3 .ensures ∙ simp (← (fits .ensures), kind, aligned, overlaps-told _ _ (sym (c .before .before .before .chunks-stand .ensures) ∙ c .before .enum-told .given .1))
 
 refused-requires-4 : tie.Need-refused-requires-4
 refused-requires-4 c κs = search needs
 
 returns-4 : tie.Need-returns-4
 unfolding measuredOf placeNumber
-returns-4 c = let s = stands-told _ _ _ (sym (c .before .before .before .before .before .chunks-stand .ensures) ∙ c .before .before .before .stood .given .1) in c .refused4 .ensures ∙ simp (← (c .before .before .before .before .before .before .before .before .before .kind-fits .ensures), not-false (c .before .before .before .before .before .before .before .before .before .kind-fits .result) (c .before .before .before .before .before .before .before .before .if1 .left), eq-eqb _ _ (c .before .before .before .before .before .before .before .if2 .left), s .0, lt-leb (messageLength (c .before .before .before .before .before .before .before .before .before .before .args .base) (found (c .before .before .before .before .before .before .before .before .before .before .args .c))) 1048576 (omega arith))
-
-add-message : tie.Need-add-message
-add-message c = let s = stands-told _ _ _ (sym (c .before .before .before .before .chunks-stand .ensures) ∙ c .before .before .stood .given .1) in let small = rounded-small _ (c .before .before .before .before .before .before .before .before .before .pre .1) (omega (arith, length-take (c .before .before .before .before .before .before .before .before .before .args .c .count) (c .before .before .before .before .before .before .before .before .before .args .c .runs))) in omega (arith, s .1)
+returns-4 c =
+    let a = c .before .before .before .before .before .before .before .before .before .args in
+    let cs = otherChunks (take (a .n) (a .segments)) in
+    let fits = c .before .before .before .before .before .before .before .before .kind-fits in
+    let kind = not-false (fits .result) (c .before .before .before .before .before .before .before .if1 .left) in
+    let aligned = eq-eqb _ _ (c .before .before .before .before .before .before .if2 .left) in
+    let s = stands-told _ _ _ (sym (c .before .before .before .before .before .chunks-stand .ensures) ∙ c .before .before .before .stood .given .1) in
+    let size = s .1 in
+    c .refused4 .ensures ∙ simp (← (fits .ensures), kind, aligned, s .0, lt-leb (messageLength (a .base) cs) 1048576 (omega arith))
 
 refused-requires-5 : tie.Need-refused-requires-5
 refused-requires-5 c κs = search needs
 
 returns-5 : tie.Need-returns-5
 unfolding measuredOf placeNumber
-returns-5 c = let s = stands-told _ _ _ (sym (c .before .before .before .before .before .before .chunks-stand .ensures) ∙ c .before .before .before .before .stood .given .1) in c .refused5 .ensures ∙ simp (← (c .before .before .before .before .before .before .before .before .before .before .kind-fits .ensures), not-false (c .before .before .before .before .before .before .before .before .before .before .kind-fits .result) (c .before .before .before .before .before .before .before .before .before .if1 .left), eq-eqb _ _ (c .before .before .before .before .before .before .before .before .if2 .left), s .0, lt-leb (messageLength (c .before .before .before .before .before .before .before .before .before .before .before .args .base) (found (c .before .before .before .before .before .before .before .before .before .before .before .args .c))) 1048576 (let over = c .before .if4 .taken in omega (arith, s .1)))
+returns-5 c =
+    let a = c .before .before .before .before .before .before .before .before .before .before .args in
+    let cs = otherChunks (take (a .n) (a .segments)) in
+    let fits = c .before .before .before .before .before .before .before .before .before .kind-fits in
+    let kind = not-false (fits .result) (c .before .before .before .before .before .before .before .before .if1 .left) in
+    let aligned = eq-eqb _ _ (c .before .before .before .before .before .before .before .if2 .left) in
+    let s = stands-told _ _ _ (sym (c .before .before .before .before .before .before .chunks-stand .ensures) ∙ c .before .before .before .before .stood .given .1) in
+    let size = s .1 in
+    let over = c .before .if4 .taken in
+    c .refused5 .ensures ∙ simp (← (fits .ensures), kind, aligned, s .0, lt-leb (messageLength (a .base) cs) 1048576 (omega arith))
+
+add-message : tie.Need-add-message
+add-message c = search needs
 
 refused-requires-6 : tie.Need-refused-requires-6
 refused-requires-6 c κs = search needs
 
 returns-6 : tie.Need-returns-6
 unfolding measuredOf placeNumber
-returns-6 c = let s = stands-told _ _ _ (sym (c .before .before .before .before .before .before .before .chunks-stand .ensures) ∙ c .before .before .before .before .before .stood .given .1) in c .refused6 .ensures ∙ simp (← (c .before .before .before .before .before .before .before .before .before .before .before .kind-fits .ensures), not-false (c .before .before .before .before .before .before .before .before .before .before .before .kind-fits .result) (c .before .before .before .before .before .before .before .before .before .before .if1 .left), eq-eqb _ _ (c .before .before .before .before .before .before .before .before .before .if2 .left), s .0, le-leb (messageLength (c .before .before .before .before .before .before .before .before .before .before .before .before .args .base) (found (c .before .before .before .before .before .before .before .before .before .before .before .before .args .c))) 1048576 (omega (arith, s .1)), lt-leb (messageLength (c .before .before .before .before .before .before .before .before .before .before .before .before .args .base) (found (c .before .before .before .before .before .before .before .before .before .before .before .before .args .c))) (c .before .before .before .before .before .before .before .before .before .before .before .before .args .room) (omega (arith, s .1)))
+returns-6 c =
+    let a = c .before .before .before .before .before .before .before .before .before .before .before .args in
+    let cs = otherChunks (take (a .n) (a .segments)) in
+    let fits = c .before .before .before .before .before .before .before .before .before .before .kind-fits in
+    let kind = not-false (fits .result) (c .before .before .before .before .before .before .before .before .before .if1 .left) in
+    let aligned = eq-eqb _ _ (c .before .before .before .before .before .before .before .before .if2 .left) in
+    let s = stands-told _ _ _ (sym (c .before .before .before .before .before .before .before .chunks-stand .ensures) ∙ c .before .before .before .before .before .stood .given .1) in
+    let size = s .1 in
+    let within = c .before .before .if4 .left in
+    c .refused6 .ensures ∙ simp (← (fits .ensures), kind, aligned, s .0, le-leb (messageLength (a .base) cs) 1048576 (omega arith), lt-leb (messageLength (a .base) cs) (a .room) (omega arith))
 
 returns-7 : tie.Need-returns-7
 unfolding measuredOf placeNumber
-returns-7 c = let s = stands-told _ _ _ (sym (c .before .before .before .before .before .before .chunks-stand .ensures) ∙ c .before .before .before .before .stood .given .1) in simp (← (c .before .before .before .before .before .before .before .before .before .before .kind-fits .ensures), not-false (c .before .before .before .before .before .before .before .before .before .before .kind-fits .result) (c .before .before .before .before .before .before .before .before .before .if1 .left), eq-eqb _ _ (c .before .before .before .before .before .before .before .before .if2 .left), s .0, le-leb (messageLength (c .before .before .before .before .before .before .before .before .before .before .before .args .base) (found (c .before .before .before .before .before .before .before .before .before .before .before .args .c))) 1048576 (omega (arith, s .1)), le-leb (messageLength (c .before .before .before .before .before .before .before .before .before .before .before .args .base) (found (c .before .before .before .before .before .before .before .before .before .before .before .args .c))) (c .before .before .before .before .before .before .before .before .before .before .before .args .room) (omega (arith, s .1)), s .1)
+returns-7 c =
+    let a = c .before .before .before .before .before .before .before .before .before .before .args in
+    let cs = otherChunks (take (a .n) (a .segments)) in
+    let fits = c .before .before .before .before .before .before .before .before .before .kind-fits in
+    let kind = not-false (fits .result) (c .before .before .before .before .before .before .before .before .if1 .left) in
+    let aligned = eq-eqb _ _ (c .before .before .before .before .before .before .before .if2 .left) in
+    let s = stands-told _ _ _ (sym (c .before .before .before .before .before .before .chunks-stand .ensures) ∙ c .before .before .before .before .stood .given .1) in
+    let size = s .1 in
+    let within = c .before .if4 .left in
+    simp (← (fits .ensures), kind, aligned, s .0, le-leb (messageLength (a .base) cs) 1048576 (omega arith), le-leb (messageLength (a .base) cs) (a .room) (omega arith), size)
 
 pub measure-spec : {M : Type 1} → statement M
 measure-spec =
@@ -87,9 +126,9 @@ measure-spec =
     returns-3
     refused-requires-4
     returns-4
-    add-message
     refused-requires-5
     returns-5
+    add-message
     refused-requires-6
     returns-6
     returns-7)

@@ -1,43 +1,110 @@
 -- `placing::clear_paddings` meets its contract.
-use denote.Ref.{now}
-use Rattle.placing.proofs.Laws.{chunk-within, padded-more}
-use Rattle.layout.proofs.Stood.{rounded-most, bounded-there}
-use Rattle.layout.proofs.Putting.{length-put}
-use Rattle.layout.specs.Layout.{run, places, paddings, paddingPlaces}
-use Rattle.layout.specs.Places.{put}
-use lib.Seq.{length-take-le, getD-take, take-length}
-use lib.ListN.{length, take, getD, replicate}
-use borrow.Author.Needs.{needs}
-use native.Mathlib.Omega.{arith}
-use Prim.Native.Nat.{_≤_, _-_}
 use mathlib.Core.Path.{_≡_, refl, ap, _∙_}
+use Prim.Native.Nat.{_≤_, _-_}
+use native.Mathlib.Omega.{arith}
+use borrow.Author.Needs.{needs}
+use lib.ListN.{length, take, drop, getD}
+use Rattle.wire.specs.Wire.{zeroReadSegment}
+use Rattle.layout.specs.Walks.{endedLength}
+use Rattle.layout.specs.Layout.{otherChunks}
+use Rattle.placing.proofs.Laws.{Padded, padded-start, padded-next, padded-last, ended-within, last-within}
+use Rattle.layout.proofs.Putting.{length-put}
+use Rattle.layout.proofs.Stood.{rounded-most}
+use Rattle.layout.proofs.Remaining.{Along, along-start, next-here, no-more, walk-here, ended-most, along-next}
 use Rattle.placing.proofs.clear_paddings.Statement.{statement}
 use Rattle.placing.proofs.clear_paddings.Tie as tie
 
 abbrev Inv-loop : tie.InvT-loop
-Inv-loop out₀ n base runs i₀ out i = (i ≤ n) × (length out ≡ length out₀) × (out ≡ put (paddingPlaces (take i (take n runs))) (replicate (length (paddingPlaces (take i (take n runs)))) 0) out₀)
+Inv-loop out₀ n base segments w₀ i₀ out w i = (i ≤ n) × Along (take n segments) i 0 w × (length out ≡ length out₀) × Padded (otherChunks (take n segments)) w (drop i (take n segments)) out₀ out
 
 abbrev μ-loop : tie.MeasureT-loop
-μ-loop out₀ n base runs i₀ out i = n - i
+μ-loop out₀ n base segments w₀ i₀ out w i = n - i
 
 loop-holds : tie.Need-loop-holds Inv-loop μ-loop
-unfolding paddingPlaces paddings places put
-loop-holds c = (search needs, refl, refl)
+loop-holds c = (search needs, along-start _ (c .before .pre .1 .rise), refl, padded-start _ _)
 
-mul-r : tie.Need-mul-r Inv-loop μ-loop
-mul-r c = search needs
+mul-x : tie.Need-mul-x Inv-loop μ-loop
+mul-x c = search needs
 
-array-copy-out-r : tie.Need-array-copy-out-r Inv-loop μ-loop
-array-copy-out-r c = search needs
+array-copy-out-x : tie.Need-array-copy-out-x Inv-loop μ-loop
+array-copy-out-x c = search needs
+
+ended-requires : tie.Need-ended-requires Inv-loop μ-loop
+ended-requires c κs = search needs
 
 add-clear-at : tie.Need-add-clear-at Inv-loop μ-loop
-add-clear-at c = let a = c .before .before .before .before .before .before .args in let full : length (a .t2) ≡ 16 = search needs in let long = length-take-le (a .n) (a .t2) (omega arith) in let at-run = getD-take (a .n) (a .t2) (c .before .before .before .before .loop .i) (run 0 0) (c .before .before .before .loop-test .taken) in let small = rw at-run at (bounded-there (take (a .n) (a .t2)) (c .before .before .before .before .loop .i) (omega arith) (c .before .before .before .before .before .before .pre .1 .bounded)) in omega (arith, small .0, small .1)
+add-clear-at c = let a = c .before .before .before .before .before .before .before .args in
+    let few = c .before .before .before .before .before .before .before .pre .0 in
+    let laid = c .before .before .before .before .before .before .before .pre .1 in
+    let room = c .before .before .before .before .before .before .before .pre .2 in
+    let full : length (a .t2) ≡ 16 = search needs in
+    let at = c .before .before .before .before .before .loop in
+    let reads = take (a .n) (a .t2) in
+    let rest = next-here (a .n) (at .i) (a .t2) full few (c .before .before .before .before .loop-test .taken) in
+    let along = at .inv .1 in
+    let walk = walk-here reads (at .i) _ (at .w) _ rest along in
+    let most = ended-most reads (at .i) _ (at .w) _ rest along in
+    let sum = along .low .sum in
+    let low = along .low .at in
+    let same = at .inv .2 in
+    let e = c .before .before .ended .ensures in
+    omega arith
 
 padding-requires : tie.Need-padding-requires Inv-loop μ-loop
-padding-requires c κs = let a = c .before .before .before .before .before .before .args in let full : length (a .t2) ≡ 16 = search needs in let long = length-take-le (a .n) (a .t2) (omega arith) in let at-run = getD-take (a .n) (a .t2) (c .before .before .before .before .loop .i) (run 0 0) (c .before .before .before .loop-test .taken) in let small = rw at-run at (bounded-there (take (a .n) (a .t2)) (c .before .before .before .before .loop .i) (omega arith) (c .before .before .before .before .before .before .pre .1 .bounded)) in small .1
+padding-requires c κs = let a = c .before .before .before .before .before .before .before .args in
+    let few = c .before .before .before .before .before .before .before .pre .0 in
+    let laid = c .before .before .before .before .before .before .before .pre .1 in
+    let room = c .before .before .before .before .before .before .before .pre .2 in
+    let full : length (a .t2) ≡ 16 = search needs in
+    let at = c .before .before .before .before .before .loop in
+    let reads = take (a .n) (a .t2) in
+    let rest = next-here (a .n) (at .i) (a .t2) full few (c .before .before .before .before .loop-test .taken) in
+    let along = at .inv .1 in
+    let walk = walk-here reads (at .i) _ (at .w) _ rest along in
+    let most = ended-most reads (at .i) _ (at .w) _ rest along in
+    let sum = along .low .sum in
+    let low = along .low .at in
+    let same = at .inv .2 in
+    rw (c .before .before .ended .ensures) (omega arith)
 
 clear-at-requires : tie.Need-clear-at-requires Inv-loop μ-loop
-clear-at-requires c κs = let a = c .before .before .before .before .before .before .before .args in let full : length (a .t2) ≡ 16 = search needs in let long = length-take-le (a .n) (a .t2) (omega arith) in let at-run = getD-take (a .n) (a .t2) (c .before .before .before .before .before .loop .i) (run 0 0) (c .before .before .before .before .loop-test .taken) in let most = rw at-run at (chunk-within (a .base) (take (a .n) (a .t2)) (c .before .before .before .before .before .loop .i) (c .before .before .before .before .before .before .before .pre .1 .stand) (omega arith)) in let room = c .before .before .before .before .before .before .before .pre .2 in let pad = c .padding .ensures .0 in let up = rounded-most (getD (a .t2) (c .before .before .before .before .before .loop .i) (run 0 0) .length) .0 in let same = c .before .before .before .before .before .loop .inv .1 in omega arith
+clear-at-requires c κs = let a = c .before .before .before .before .before .before .before .before .args in
+    let few = c .before .before .before .before .before .before .before .before .pre .0 in
+    let laid = c .before .before .before .before .before .before .before .before .pre .1 in
+    let room = c .before .before .before .before .before .before .before .before .pre .2 in
+    let full : length (a .t2) ≡ 16 = search needs in
+    let at = c .before .before .before .before .before .before .loop in
+    let reads = take (a .n) (a .t2) in
+    let rest = next-here (a .n) (at .i) (a .t2) full few (c .before .before .before .before .before .loop-test .taken) in
+    let along = at .inv .1 in
+    let walk = walk-here reads (at .i) _ (at .w) _ rest along in
+    let most = ended-most reads (at .i) _ (at .w) _ rest along in
+    let sum = along .low .sum in
+    let low = along .low .at in
+    let same = at .inv .2 in
+    let padded = rw rest at (at .inv .3) in
+    let e = c .before .before .before .ended .ensures in
+    let pad = rw e at (c .padding .ensures .0) in
+    let within = ended-within (a .base) _ (at .w) _ _ (laid .stand) _ _ walk padded in
+    let up = rounded-most (endedLength (at .w) (getD (a .t2) (at .i) zeroReadSegment)) .0 in
+    omega arith
+
+joined-requires : tie.Need-joined-requires Inv-loop μ-loop
+joined-requires c κs = let a = c .before .before .before .before .before .before .before .before .before .before .before .args in
+    let few = c .before .before .before .before .before .before .before .before .before .before .before .pre .0 in
+    let laid = c .before .before .before .before .before .before .before .before .before .before .before .pre .1 in
+    let room = c .before .before .before .before .before .before .before .before .before .before .before .pre .2 in
+    let full : length (a .t2) ≡ 16 = search needs in
+    let at = c .before .before .before .before .before .before .before .before .before .loop in
+    let reads = take (a .n) (a .t2) in
+    let rest = next-here (a .n) (at .i) (a .t2) full few (c .before .before .before .before .before .before .before .before .loop-test .taken) in
+    let along = at .inv .1 in
+    let walk = walk-here reads (at .i) _ (at .w) _ rest along in
+    let most = ended-most reads (at .i) _ (at .w) _ rest along in
+    let sum = along .low .sum in
+    let low = along .low .at in
+    let same = at .inv .2 in
+    omega arith
 
 add-i : tie.Need-add-i Inv-loop μ-loop
 add-i c = search needs
@@ -46,13 +113,98 @@ loop-less : tie.Need-loop-less Inv-loop μ-loop
 loop-less c = search needs
 
 loop-again : tie.Need-loop-again Inv-loop μ-loop
-loop-again c = let a = c .before .before .before .before .before .before .before .before .before .before .args in let full : length (a .t2) ≡ 16 = search needs in let long = length-take-le (a .n) (a .t2) (omega arith) in let at-run = getD-take (a .n) (a .t2) (c .before .before .before .before .before .before .before .before .loop .i) (run 0 0) (c .before .before .before .before .before .before .before .loop-test .taken) in let after = padded-more (take (a .n) (a .t2)) (c .before .before .before .before .before .before .before .before .loop .i) (c .before .before .before .padding .result) (now (a .out)) (c .before .before .before .before .before .before .before .before .loop .out) _ (omega arith) (rw (← at-run) at (c .before .before .before .padding .ensures .0)) (c .before .before .before .before .before .before .before .before .loop .inv .2) (rw (← at-run) at (c .before .before .clear-at .ensures)) in (search needs, ap length after ∙ length-put _ _ _, after)
+loop-again c = let a = c .before .before .before .before .before .before .before .before .before .before .before .before .args in
+    let few = c .before .before .before .before .before .before .before .before .before .before .before .before .pre .0 in
+    let laid = c .before .before .before .before .before .before .before .before .before .before .before .before .pre .1 in
+    let room = c .before .before .before .before .before .before .before .before .before .before .before .before .pre .2 in
+    let full : length (a .t2) ≡ 16 = search needs in
+    let at = c .before .before .before .before .before .before .before .before .before .before .loop in
+    let reads = take (a .n) (a .t2) in
+    let rest = next-here (a .n) (at .i) (a .t2) full few (c .before .before .before .before .before .before .before .before .before .loop-test .taken) in
+    let along = at .inv .1 in
+    let walk = walk-here reads (at .i) _ (at .w) _ rest along in
+    let most = ended-most reads (at .i) _ (at .w) _ rest along in
+    let sum = along .low .sum in
+    let low = along .low .at in
+    let same = at .inv .2 in
+    let padded = rw rest at (at .inv .3) in
+    let e = c .before .before .before .before .before .before .before .ended .ensures in
+    let next = padded-next (a .base) _ (at .w) _ _ (laid .stand) _ _ walk padded _ _ (rw e at (c .before .before .before .before .padding .ensures .0)) (rw e at (c .before .before .before .clear-at .ensures)) in
+    (search needs, along-next reads (at .i) 0 (at .w) _ rest along 0 _ (omega arith) (c .joined .ensures .0) (c .joined .ensures .1), ap length (next .filled) ∙ length-put _ _ _, rw (c .joined .ensures .0) next)
+
+add-clear-at-2 : tie.Need-add-clear-at-2 Inv-loop μ-loop
+add-clear-at-2 c = let a = c .before .before .before .before .before .args in
+    let few = c .before .before .before .before .before .pre .0 in
+    let laid = c .before .before .before .before .before .pre .1 in
+    let room = c .before .before .before .before .before .pre .2 in
+    let full : length (a .t2) ≡ 16 = search needs in
+    let at = c .before .before .before .loop in
+    let end : at .i ≡ a .n = omega arith in
+    let none = no-more (a .n) (at .i) (a .t2) full few end in
+    let along = at .inv .1 in
+    let walk = rw none at (along .walk) in
+    let padded = rw none at (at .inv .3) in
+    let sum = along .low .sum in
+    let low = along .low .at in
+    let same = at .inv .2 in
+    omega arith
+
+padding-requires-2 : tie.Need-padding-requires-2 Inv-loop μ-loop
+padding-requires-2 c κs = let a = c .before .before .before .before .before .args in
+    let few = c .before .before .before .before .before .pre .0 in
+    let laid = c .before .before .before .before .before .pre .1 in
+    let room = c .before .before .before .before .before .pre .2 in
+    let full : length (a .t2) ≡ 16 = search needs in
+    let at = c .before .before .before .loop in
+    let end : at .i ≡ a .n = omega arith in
+    let none = no-more (a .n) (at .i) (a .t2) full few end in
+    let along = at .inv .1 in
+    let walk = rw none at (along .walk) in
+    let padded = rw none at (at .inv .3) in
+    let sum = along .low .sum in
+    let low = along .low .at in
+    let same = at .inv .2 in
+    omega arith
+
+clear-at-requires-2 : tie.Need-clear-at-requires-2 Inv-loop μ-loop
+clear-at-requires-2 c κs = let a = c .before .before .before .before .before .before .args in
+    let few = c .before .before .before .before .before .before .pre .0 in
+    let laid = c .before .before .before .before .before .before .pre .1 in
+    let room = c .before .before .before .before .before .before .pre .2 in
+    let full : length (a .t2) ≡ 16 = search needs in
+    let at = c .before .before .before .before .loop in
+    let end : at .i ≡ a .n = omega arith in
+    let none = no-more (a .n) (at .i) (a .t2) full few end in
+    let along = at .inv .1 in
+    let walk = rw none at (along .walk) in
+    let padded = rw none at (at .inv .3) in
+    let sum = along .low .sum in
+    let low = along .low .at in
+    let same = at .inv .2 in
+    let pad = c .padding2 .ensures .0 in
+    let within = last-within (a .base) _ (at .w) _ _ (laid .stand) walk padded in
+    let up = rounded-most (at .w .length) .0 in
+    omega arith
 
 same-length : tie.Need-same-length Inv-loop μ-loop
 same-length c = search needs
 
 returns : tie.Need-returns Inv-loop μ-loop
-returns c = let a = c .before .before .before .args in let full : length (a .t2) ≡ 16 = search needs in let long = length-take-le (a .n) (a .t2) (omega arith) in let e : c .before .loop .i ≡ length (take (a .n) (a .t2)) = omega arith in rw (e, take-length) at (c .before .loop .inv .2)
+returns c = let a = c .before .before .before .before .before .before .before .before .before .args in
+    let few = c .before .before .before .before .before .before .before .before .before .pre .0 in
+    let laid = c .before .before .before .before .before .before .before .before .before .pre .1 in
+    let room = c .before .before .before .before .before .before .before .before .before .pre .2 in
+    let full : length (a .t2) ≡ 16 = search needs in
+    let at = c .before .before .before .before .before .before .before .loop in
+    let end : at .i ≡ a .n = omega arith in
+    let none = no-more (a .n) (at .i) (a .t2) full few end in
+    let along = at .inv .1 in
+    let walk = rw none at (along .walk) in
+    let padded = rw none at (at .inv .3) in
+    let sum = along .low .sum in
+    let low = along .low .at in
+    let same = at .inv .2 in
+    padded-last (a .base) _ (at .w) _ _ (laid .stand) walk padded _ _ (c .before .before .before .padding2 .ensures .0) (c .before .before .clear-at2 .ensures)
 
 pub clear-paddings-spec : {M : Type 1} → statement M
 clear-paddings-spec =
@@ -61,13 +213,18 @@ clear-paddings-spec =
     Inv-loop
     μ-loop
     loop-holds
-    mul-r
-    array-copy-out-r
+    mul-x
+    array-copy-out-x
+    ended-requires
     add-clear-at
     padding-requires
     clear-at-requires
+    joined-requires
     add-i
     loop-less
     loop-again
+    add-clear-at-2
+    padding-requires-2
+    clear-at-requires-2
     same-length
     returns)

@@ -1,8 +1,8 @@
 -- `placing::place` meets its contract.
-use Rattle.placing.proofs.Laws.{source-small, seek-within, within-source, part-length, placed-more}
+use Rattle.placing.proofs.Laws.{source-most, seek-within, within-source, part-length, placed-more}
 use Rattle.placing.specs.Sources.{sourcePlaces}
 use Rattle.layout.proofs.Putting.{length-put, put-none}
-use Rattle.layout.specs.Layout.{messageLength}
+use Rattle.layout.specs.Layout.{otherChunks, messageLength}
 use Rattle.layout.specs.Places.{put}
 use lib.Seq.{take-length}
 use lib.ListN.{length, take, drop}
@@ -15,16 +15,21 @@ use Rattle.placing.proofs.place.Statement.{statement}
 use Rattle.placing.proofs.place.Tie as tie
 
 abbrev Inv-loop : tie.InvT-loop
-Inv-loop out₀ piece runs n base based count j₀ out j = (out ≡ put (drop count (sourcePlaces based base (take n runs))) (take j piece) out₀) × (j ≤ length piece) × (length out ≡ length out₀)
+Inv-loop out₀ piece segments n base based count j₀ out j = (out ≡ put (drop count (sourcePlaces based base (otherChunks (take n segments)))) (take j piece) out₀) × (j ≤ length piece) × (length out ≡ length out₀)
 
 abbrev μ-loop : tie.MeasureT-loop
-μ-loop out₀ piece runs n base based count j₀ out j = length piece - j
+μ-loop out₀ piece segments n base based count j₀ out j = length piece - j
 
 loop-holds : tie.Need-loop-holds Inv-loop μ-loop
 loop-holds c = (sym (put-none _ _), omega arith, refl)
 
 add-seek : tie.Need-add-seek Inv-loop μ-loop
-add-seek c = let few = source-small (c .before .before .before .before .args .based) (c .before .before .before .before .args .base) (take (c .before .before .before .before .args .n) (c .before .before .before .before .args .runs)) (c .before .before .before .before .pre .1) in omega arith
+add-seek c =
+    let a = c .before .before .before .before .args in
+    let l = c .before .before .before .before .pre .1 in
+    let few = source-most (a .based) (a .base) (otherChunks (take (a .n) (a .segments))) (l .stand) in
+    let room = c .before .before .before .before .pre .2 in
+    omega arith
 
 seek-requires : tie.Need-seek-requires Inv-loop μ-loop
 seek-requires c κs = (c .before .before .before .before .pre .0, c .before .before .before .before .pre .1, omega arith)
@@ -48,7 +53,7 @@ part-copy-at-end : tie.Need-part-copy-at-end Inv-loop μ-loop
 part-copy-at-end c = search needs
 
 copy-at-requires : tie.Need-copy-at-requires Inv-loop μ-loop
-copy-at-requires c κs = let a = c .before .before .before .before .before .before .before .before .args in let within = seek-within (messageLength (a .base) (take (a .n) (a .runs))) _ _ _ (c .before .before .before .seek .ensures) (within-source (a .based) (a .base) (take (a .n) (a .runs)) (c .before .before .before .before .before .before .before .before .pre .1 .stand)) in let part = part-length (c .before .before .before .before .before .loop .j) (c .before .before .least .result) (now (a .piece)) (omega arith) in omega (arith, within, part, c .before .before .least .ensures .0)
+copy-at-requires c κs = let a = c .before .before .before .before .before .before .before .before .args in let within = seek-within (messageLength (a .base) (otherChunks (take (a .n) (a .segments)))) _ _ _ (c .before .before .before .seek .ensures) (within-source (a .based) (a .base) (otherChunks (take (a .n) (a .segments))) (c .before .before .before .before .before .before .before .before .pre .1 .stand)) in let part = part-length (c .before .before .before .before .before .loop .j) (c .before .before .least .result) (now (a .piece)) (omega arith) in omega (arith, within, part, c .before .before .least .ensures .0)
 
 loop-less : tie.Need-loop-less Inv-loop μ-loop
 loop-less c = omega (arith, c .before .before .before .before .before .least .ensures .2)

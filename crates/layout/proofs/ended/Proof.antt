@@ -1,0 +1,18 @@
+-- `layout::ended` meets its contract.
+use mathlib.Core.Path.{sym, _∙_}
+use Rattle.layout.proofs.Remaining.{ended-none, ended-all}
+use borrow.Author.Needs.{needs}
+use Rattle.layout.proofs.ended.Statement.{statement}
+use Rattle.layout.proofs.ended.Tie as tie
+
+wide-requires : tie.Need-wide-requires
+wide-requires c κs = search needs
+
+returns : tie.Need-returns
+returns c = ended-none (c .before .before .before .args .w) (c .before .before .before .args .x) (c .if1 .taken ∙ c .before .before .wide .ensures .0)
+
+returns-2 : tie.Need-returns-2
+returns-2 c = ended-all (c .before .before .before .args .w) (c .before .before .before .args .x) (λ e. c .if1 .left (e ∙ sym (c .before .before .wide .ensures .0)))
+
+pub ended-spec : {M : Type 1} → statement M
+ended-spec = tie.close (tie.spec wide-requires returns returns-2)
