@@ -1,4 +1,5 @@
 // The library's calls for C and Rust: flat structs, kinds and flags as numbers, parts as offset and length.
+use assembly::State;
 use header::ErrorKind;
 use header::Header;
 use header::Kind;
@@ -15,9 +16,11 @@ use wire::WriteAnswer;
 ghost use mathlib.Core.Path.{_≡_};
 ghost use lib.ListN.{length};
 ghost use Rattle.header.specs.Frame.{readFrame, readAnswer, payloadOf};
+ghost use Rattle.assembly.specs.Assembly.{startAnswer, startInto};
 ghost use Rattle.reply.specs.Reply.{grantAnswer, errorReplyAnswer, errorReplyInto};
 ghost use Rattle.setup.specs.Setup.{readSetup};
 ghost use Rattle.port.specs.FlatSetup.{flatSetupOf, flatSetupAnswer, setupOfFlat, flatSetupWritten, flatSetupInto, flatAgreementOf, flatAgreement};
+ghost use Rattle.port.specs.FlatState.{stateKind, flatStateOf, flatStarted, stateOfFlat, flatTaken, flatTakenInto, flatAsked, flatMessage};
 ghost use Rattle.port.specs.Flat.{kindNumber, lowOf, highOf, flagNumber, flatOf, flatAnswer, partOf, kindOf, headerOfFlat, flatWritten, flatInto};
 
 #[repr(C)]
@@ -339,4 +342,138 @@ pub extern "C" fn eos_error_reply(
     ensures buffer { λ _. ⌜ now (out .exit) ≡ errorReplyInto (now (frame .entry)) answer limit (now (out .entry)) ⌝ }
 {
     reply::error_reply(frame, answer, limit, out)
+}
+
+// The state of a reassembly. The kind is 0 MSG or 1 NOMSG.
+#[repr(C)]
+pub struct FlatState {
+    pub reads: [ReadSegment; 16],
+    pub base: usize,
+    pub buffer: usize,
+    pub taken: usize,
+    pub read_count: u32,
+    pub kind: u32,
+}
+
+#[repr(C)]
+pub struct FlatStateAnswer {
+    pub state: FlatState,
+    pub number: u32,
+}
+
+fn state_kind(kind: u32) -> Known
+    ensures { λ r. ⌜ r ≡ stateKind kind ⌝ }
+{
+    if kind == 0 {
+        return Known::Is(Kind::Msg);
+    }
+    if kind == 1 {
+        return Known::Is(Kind::Nomsg);
+    }
+    Known::No
+}
+
+fn flat_state_of(s: State) -> FlatState
+    ensures { λ r. ⌜ r ≡ flatStateOf s ⌝ }
+{
+    let kind = s.kind;
+    let read_list = s.reads;
+    let reads = read_list.segments;
+    FlatState {
+        reads,
+        base: s.base,
+        buffer: s.buffer,
+        taken: s.taken,
+        read_count: read_list.count,
+        kind: kind_number(kind),
+    }
+}
+
+// Starts the reassembly of a call.
+#[no_mangle]
+pub extern "C" fn eos_start(frame: &[u8], out: &mut [u8]) -> FlatStateAnswer
+    ensures answer { λ r. ⌜ r ≡ flatStarted (startAnswer (readFrame (now (frame .entry))) (length (now (out .entry)))) ⌝ }
+    ensures buffer { λ _. ⌜ now (out .exit) ≡ startInto (readFrame (now (frame .entry))) (now (out .entry)) ⌝ }
+{
+    let started = assembly::start(frame, out);
+    let s = started.state;
+    FlatStateAnswer {
+        state: flat_state_of(s),
+        number: started.number,
+    }
+}
+
+fn state_of_flat(f: FlatState, kind: Kind) -> State
+    ensures { λ r. ⌜ r ≡ stateOfFlat f kind ⌝ }
+{
+    let segments = f.reads;
+    State {
+        reads: ReadList {
+            segments,
+            count: f.read_count,
+        },
+        kind,
+        base: f.base,
+        buffer: f.buffer,
+        taken: f.taken,
+    }
+}
+
+// Takes a piece of the pulled bytes. Of the state handed in, only the count changes.
+#[no_mangle]
+pub extern "C" fn eos_take_piece(f: FlatState, piece: &[u8], out: &mut [u8]) -> FlatStateAnswer
+    ensures answer { λ r. ⌜ r ≡ flatTaken f (length (now (out .entry))) (length (now (piece .entry))) ⌝ }
+    ensures buffer { λ _. ⌜ now (out .exit) ≡ flatTakenInto f (now (piece .entry)) (now (out .entry)) ⌝ }
+{
+    let known = state_kind(f.kind);
+    let Known::Is(kind) = known else {
+        return FlatStateAnswer {
+            state: f,
+            number: assembly::STATE_UNFIT,
+        };
+    };
+    let done = assembly::put_piece(state_of_flat(f, kind), piece, out);
+    let reads = f.reads;
+    FlatStateAnswer {
+        state: FlatState {
+            reads,
+            base: f.base,
+            buffer: f.buffer,
+            taken: done.taken,
+            read_count: f.read_count,
+            kind: f.kind,
+        },
+        number: done.number,
+    }
+}
+
+// Asks whether all bytes are in.
+#[no_mangle]
+pub extern "C" fn eos_ask(f: FlatState, out: &[u8]) -> u32
+    ensures { λ r. ⌜ r ≡ flatAsked f (length (now (out .entry))) ⌝ }
+{
+    let known = state_kind(f.kind);
+    let Known::Is(kind) = known else {
+        return assembly::STATE_UNFIT;
+    };
+    assembly::ask(state_of_flat(f, kind), out)
+}
+
+// Where the message lies in the buffer, once all bytes are in.
+#[no_mangle]
+pub extern "C" fn eos_message(f: FlatState, out: &[u8]) -> FlatPart
+    ensures { λ r. ⌜ r ≡ flatMessage f (now (out .entry)) ⌝ }
+{
+    let known = state_kind(f.kind);
+    let Known::Is(kind) = known else {
+        return FlatPart {
+            offset: 0,
+            length: 0,
+        };
+    };
+    let part = assembly::message(state_of_flat(f, kind), out);
+    FlatPart {
+        offset: 0,
+        length: part.len(),
+    }
 }
