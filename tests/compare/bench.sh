@@ -1,5 +1,6 @@
 #!/bin/sh
-# Builds and prints one table: instructions for each call (callgrind, if there), time, ratios.
+# Builds and prints one table: instructions for each call (callgrind, if there), time, ratios;
+# where bytes are moved, the bare copies of the same bytes to the same places too.
 set -eu
 cd "$(dirname "$0")"
 : "${EOS_LIB_DIR:?set EOS_LIB_DIR to the folder that holds libport.a}"
@@ -11,19 +12,20 @@ collected() {
         awk '/Collected/ { print $NF }'
 }
 
-# Two counts, so that the start of the program falls out.
+# Two counts, so that the start of the program falls out. A fill moves 1 MiB: fewer of them.
 instructions() {
     if ! command -v valgrind >/dev/null; then echo -; return; fi
-    few=$(collected "$1" "$2" 1000)
-    many=$(collected "$1" "$2" 11000)
-    echo $(((many - few) / 10000))
+    case $1 in *-fill) once=10 ;; *) once=1000 ;; esac
+    few=$(collected "$1" "$2" $once)
+    many=$(collected "$1" "$2" $((11 * once)))
+    echo $(((many - few) / (10 * once)))
 }
 
-printf '%-11s %-8s %9s %9s %7s %9s %9s %7s\n' \
-    call input 'lib ins' 'plain ins' ratio 'lib ns' 'plain ns' ratio
-"$bench" | tail -n +2 | while read -r call input lib plain ratio; do
+row='%-11s %-8s %9s %9s %7s %9s %9s %7s %9s %7s\n'
+printf "$row" call input 'lib ins' 'plain ins' ratio 'lib ns' 'plain ns' ratio 'copy ns' ratio
+"$bench" | tail -n +2 | while read -r call input lib plain ratio copy slower; do
     a=$(instructions "lib-$call" "$input")
     b=$(instructions "plain-$call" "$input")
     r=$(echo "$a $b" | awk '{ if ($2 + 0 > 0) printf "%.2f", $1 / $2; else print "-" }')
-    printf '%-11s %-8s %9s %9s %7s %9s %9s %7s\n' "$call" "$input" "$a" "$b" "$r" "$lib" "$plain" "$ratio"
+    printf "$row" "$call" "$input" "$a" "$b" "$r" "$lib" "$plain" "$ratio" "$copy" "$slower"
 done

@@ -1,5 +1,6 @@
 //! The flat structs of the C boundary, their natural counterparts, and the library's calls.
 
+use crate::assembly::State;
 use crate::oracle::{self, Fault, Header, Kind, ReadSegment, Reply, Segment};
 use crate::setup::{Agreement, Setup};
 
@@ -85,10 +86,33 @@ pub struct FlatGrant {
     pub number: u32,
 }
 
+#[repr(C)]
+#[derive(Clone, Copy, Debug, PartialEq, Eq)]
+pub struct FlatState {
+    pub reads: [ReadSegment; 16],
+    pub base: usize,
+    pub buffer: usize,
+    pub taken: usize,
+    pub read_count: u32,
+    pub kind: u32,
+}
+
+impl FlatState {
+    pub const ZERO: FlatState = unsafe { std::mem::zeroed() };
+}
+
+#[repr(C)]
+#[derive(Clone, Copy, Debug, PartialEq, Eq)]
+pub struct FlatStateAnswer {
+    pub state: FlatState,
+    pub number: u32,
+}
+
 const _: () = assert!(size_of::<Segment>() == 16 && size_of::<ReadSegment>() == 24);
 const _: () = assert!(size_of::<Flat>() == 952 && size_of::<ReadAnswer>() == 960);
 const _: () = assert!(size_of::<FlatSetup>() == 12 && size_of::<FlatSetupAnswer>() == 20);
 const _: () = assert!(size_of::<FlatAgreement>() == 16 && size_of::<FlatGrant>() == 8);
+const _: () = assert!(size_of::<FlatState>() == 416 && size_of::<FlatStateAnswer>() == 424);
 
 /// A header within the limits, unused places zero.
 pub fn flatten(header: &Header) -> Flat {
@@ -181,9 +205,32 @@ pub fn flatten_agreement(outcome: Result<Agreement, u32>) -> FlatAgreement {
     }
 }
 
+/// A state that a start or a piece handed back, unused places zero.
+pub fn flatten_state(state: &State) -> FlatState {
+    let &State { base, buffer, taken, .. } = state;
+    let kind = if state.kind == Kind::Nomsg { NOMSG } else { MSG };
+    let read_count = state.reads.len() as u32;
+    let mut flat = FlatState { base, buffer, taken, read_count, kind, ..FlatState::ZERO };
+    flat.reads[..state.reads.len()].copy_from_slice(&state.reads);
+    flat
+}
+
+/// The natural state of a flat one, or 17 for a kind that no state can have.
+pub fn unflatten_state(flat: &FlatState) -> Result<State, u32> {
+    let kind = match flat.kind {
+        MSG => Kind::Msg,
+        NOMSG => Kind::Nomsg,
+        _ => return Err(17),
+    };
+    let &FlatState { base, buffer, taken, .. } = flat;
+    let reads = cut(flat.reads.iter().copied(), flat.read_count, oracle::MAX_READS);
+    Ok(State { kind, reads, base, buffer, taken })
+}
+
 #[cfg(port)]
 mod library {
-    use super::{Flat, FlatAgreement, FlatGrant, FlatSetup, FlatSetupAnswer, Part, ReadAnswer, WriteAnswer};
+    use super::{Flat, FlatAgreement, FlatGrant, FlatSetup, FlatSetupAnswer, FlatState, FlatStateAnswer};
+    use super::{Part, ReadAnswer, WriteAnswer};
     use crate::check::Port;
 
     extern "C" {
@@ -202,6 +249,16 @@ mod library {
             out: *mut u8,
             out_len: usize,
         ) -> WriteAnswer;
+        fn eos_start(frame: *const u8, frame_len: usize, out: *mut u8, out_len: usize) -> FlatStateAnswer;
+        fn eos_take_piece(
+            s: FlatState,
+            piece: *const u8,
+            piece_len: usize,
+            out: *mut u8,
+            out_len: usize,
+        ) -> FlatStateAnswer;
+        fn eos_ask(s: FlatState, out: *const u8, out_len: usize) -> u32;
+        fn eos_message(s: FlatState, out: *const u8, out_len: usize) -> Part;
     }
 
     pub struct Library;
@@ -248,6 +305,26 @@ mod library {
             unsafe {
                 eos_error_reply(frame.as_ptr(), frame.len(), number, limit, out.as_mut_ptr(), out.len())
             }
+        }
+
+        #[inline(always)]
+        fn start(&self, frame: &[u8], out: &mut [u8]) -> FlatStateAnswer {
+            unsafe { eos_start(frame.as_ptr(), frame.len(), out.as_mut_ptr(), out.len()) }
+        }
+
+        #[inline(always)]
+        fn take_piece(&self, state: &FlatState, piece: &[u8], out: &mut [u8]) -> FlatStateAnswer {
+            unsafe { eos_take_piece(*state, piece.as_ptr(), piece.len(), out.as_mut_ptr(), out.len()) }
+        }
+
+        #[inline(always)]
+        fn ask(&self, state: &FlatState, out: &mut [u8]) -> u32 {
+            unsafe { eos_ask(*state, out.as_mut_ptr(), out.len()) }
+        }
+
+        #[inline(always)]
+        fn message(&self, state: &FlatState, out: &mut [u8]) -> Part {
+            unsafe { eos_message(*state, out.as_mut_ptr(), out.len()) }
         }
     }
 }

@@ -1,6 +1,8 @@
 //! The families of cases. Fixed sets first, then `cases` random ones in each random family.
-//! Those of setup data, and those of grants and error replies, have files of their own.
+//! Those of setup data, those of grants and error replies, and those of the reassembly have files
+//! of their own.
 
+pub mod assembly;
 pub mod reply;
 pub mod setup;
 
@@ -487,5 +489,6 @@ pub fn run<P: Port>(check: &mut Checker<P>, seed: u64, cases: u64) -> Outcome {
     let rng = &mut Rng(seed);
     headers(check, rng, cases)?;
     setup::run(check, rng, cases)?;
-    reply::run(check, rng, cases)
+    reply::run(check, rng, cases)?;
+    assembly::run(check, rng, cases)
 }

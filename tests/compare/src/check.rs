@@ -1,7 +1,13 @@
 //! One case at a time: the same input to an implementation and to the oracle.
+//! The checks of the reassembly have a file of their own.
+
+mod assembly;
+
+pub use assembly::Step;
 
 use crate::abi::{flatten, flatten_agreement, flatten_setup, unflatten, unflatten_setup};
-use crate::abi::{Flat, FlatAgreement, FlatGrant, FlatSetup, FlatSetupAnswer, Part, ReadAnswer, WriteAnswer};
+use crate::abi::{Flat, FlatAgreement, FlatGrant, FlatSetup, FlatSetupAnswer, FlatState, FlatStateAnswer};
+use crate::abi::{Part, ReadAnswer, WriteAnswer};
 use crate::oracle::{self, Fault, Header, Kind};
 use crate::{reply, setup};
 use std::collections::BTreeMap;
@@ -17,6 +23,11 @@ pub trait Port {
     fn agree(&self, client: FlatSetup, server: FlatSetup) -> FlatAgreement;
     fn grant(&self, asked: u32, limit: u32) -> FlatGrant;
     fn error_reply(&self, frame: &[u8], number: u32, limit: u32, out: &mut [u8]) -> WriteAnswer;
+    fn start(&self, frame: &[u8], out: &mut [u8]) -> FlatStateAnswer;
+    fn take_piece(&self, state: &FlatState, piece: &[u8], out: &mut [u8]) -> FlatStateAnswer;
+    // Lent for writing, so that a write shows as a difference.
+    fn ask(&self, state: &FlatState, out: &mut [u8]) -> u32;
+    fn message(&self, state: &FlatState, out: &mut [u8]) -> Part;
 }
 
 /// Err holds the text of the first difference.
@@ -65,7 +76,7 @@ fn header_difference(got: &Flat, want: &Flat) -> Outcome {
     Ok(())
 }
 
-/// Where answer numbers are counted; the last is the reader's number that a reply was made for.
+/// Where answer numbers are counted; Replied is the reader's number that a reply was made for.
 #[derive(Clone, Copy)]
 enum Call {
     Read,
@@ -75,10 +86,13 @@ enum Call {
     Grant,
     ErrorReply,
     Replied,
+    Start,
+    Piece,
+    Ask,
 }
 
 /// Each call's name and the numbers the families must draw from it.
-const CALLS: [(&str, &[u32]); 7] = [
+const CALLS: [(&str, &[u32]); 10] = [
     ("read", &[0, 1, 2, 3, 4, 5, 6, 7, 8, 9, 10, 11]),
     ("write", &[0, 7, 8, 9, 12, 16, 20]),
     ("setup written", &[0, 16, 20]),
@@ -86,6 +100,9 @@ const CALLS: [(&str, &[u32]); 7] = [
     ("grant", &[0, 20]),
     ("error reply", &[0, 16, 20]),
     ("replied", &[0, 1, 2, 3, 4, 5, 6, 7, 8, 9, 10, 11]),
+    ("start", &[0, 1, 2, 3, 4, 5, 6, 7, 8, 9, 10, 11, 12, 13, 14, 15, 16]),
+    ("piece", &[0, 17, 18]),
+    ("asking", &[0, 17, 19]),
 ];
 
 /// Answers that number 0 does not tell apart; each must be seen too.
@@ -96,9 +113,31 @@ enum Form {
     NoReply,
     VersionReply,
     ChunkReply,
+    MsgFinished,
+    NomsgFinished,
+    PaddedFinished,
+    SixteenChunksFinished,
+    LargestFinished,
+    EmptyPieceAtEnd,
+    RefusalBetween,
+    CutsCompared,
 }
 
-const FORMS: [&str; 5] = ["setup data", "no setup data", "no reply", "version reply", "chunk reply"];
+const FORMS: [&str; 13] = [
+    "setup data",
+    "no setup data",
+    "no reply",
+    "version reply",
+    "chunk reply",
+    "MSG finished",
+    "NOMSG finished",
+    "message with padding",
+    "message of 16 chunks",
+    "largest message",
+    "empty piece at the end",
+    "refusal before the end",
+    "two cuts compared",
+];
 
 /// What the implementation answered so far.
 #[derive(Default)]
@@ -236,12 +275,18 @@ impl<P: Port> Checker<P> {
         if answer.length != length {
             return Err(format!("length: got {}, want {length}", answer.length));
         }
-        if let Some(at) = (0..want.len()).find(|&i| self.memory[i] != want[i]) {
-            let (got, want) = (self.memory[at], want[at]);
-            let at = at as isize - lent.start as isize;
-            return Err(format!("byte {at} of the buffer: got {got:02x}, want {want:02x}"));
+        self.same_memory(lent, &want)
+    }
+
+    fn same_memory(&self, lent: &Range<usize>, want: &[u8]) -> Outcome {
+        // Whole first, which is fast.
+        if self.memory == want {
+            return Ok(());
         }
-        Ok(())
+        let at = (0..want.len()).find(|&i| self.memory[i] != want[i]).expect("equal lengths");
+        let (got, want) = (self.memory[at], want[at]);
+        let at = at as isize - lent.start as isize;
+        Err(format!("byte {at} of the buffer: got {got:02x}, want {want:02x}"))
     }
 
     fn buffer_text(&self, lent: &Range<usize>) -> String {

@@ -1,5 +1,5 @@
-//! Compares the static library's calls (headers, setup data, agreement, grant, error reply) with
-//! a second implementation.
+//! Compares the static library's calls (headers, setup data, agreement, grant, error reply,
+//! reassembly) with a second implementation.
 //! Build with EOS_LIB_DIR naming the folder of libport.a; options: --cases N (cases in each
 //! random family), --seed S, --vectors FILE (else what EOS_VECTORS names).
 //! One line for each family, then the numbers and forms seen and the total; the first difference

@@ -1,6 +1,7 @@
-use crate::abi::{
-    Flat, FlatAgreement, FlatGrant, FlatSetup, FlatSetupAnswer, Part, ReadAnswer, WriteAnswer, ERROR_CHUNK,
-};
+mod assembly;
+
+use crate::abi::{Flat, FlatAgreement, FlatGrant, FlatSetup, FlatSetupAnswer, FlatState, FlatStateAnswer};
+use crate::abi::{Part, ReadAnswer, WriteAnswer, ERROR_CHUNK};
 use crate::check::{Checker, Outcome, Port, Rng};
 use crate::oracle::{read, write, Fault, Header, Kind};
 use crate::plain::Plain;
@@ -129,7 +130,7 @@ fn vectors_agree() {
 #[test]
 fn plain_agrees_with_the_oracle() {
     let mut check = Checker::new(Plain, 3);
-    assert_eq!(check.unseen().len(), 12 + 7 + 3 + 2 + 2 + 3 + 12 + 5);
+    assert_eq!(check.unseen().len(), 12 + 7 + 3 + 2 + 2 + 3 + 12 + 17 + 3 + 3 + 13);
     cases::run(&mut check, 3, 20_000).unwrap();
     assert_eq!(check.unseen(), Vec::<String>::new());
 }
@@ -368,6 +369,22 @@ impl Port for Wrong {
             _ => {}
         }
         answer
+    }
+
+    fn start(&self, frame: &[u8], out: &mut [u8]) -> FlatStateAnswer {
+        self.faulty_start(frame, out)
+    }
+
+    fn take_piece(&self, state: &FlatState, piece: &[u8], out: &mut [u8]) -> FlatStateAnswer {
+        self.faulty_take_piece(state, piece, out)
+    }
+
+    fn ask(&self, state: &FlatState, out: &mut [u8]) -> u32 {
+        self.faulty_ask(state, out)
+    }
+
+    fn message(&self, state: &FlatState, out: &mut [u8]) -> Part {
+        self.faulty_message(state, out)
     }
 }
 

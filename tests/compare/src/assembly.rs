@@ -1,0 +1,159 @@
+//! The reassembly of a call, straight from document 01; clear rather than fast.
+
+use crate::oracle::{self, Kind, ReadSegment, MAX_READS};
+
+pub const MAX_MESSAGE: u128 = 1_048_576;
+
+/// The default is what a refused start hands back.
+#[derive(Clone, Debug, Default, PartialEq, Eq)]
+pub struct State {
+    pub kind: Kind,
+    pub reads: Vec<ReadSegment>,
+    pub base: usize,
+    pub buffer: usize,
+    pub taken: usize,
+}
+
+/// Read segments with the same position; lengths are those of all its segments together.
+struct Chunk {
+    position: u128,
+    length: u128,
+}
+
+impl Chunk {
+    fn rounded(&self) -> u128 {
+        self.length.div_ceil(4) * 4
+    }
+}
+
+fn chunks(reads: &[ReadSegment]) -> Vec<Chunk> {
+    let mut list: Vec<Chunk> = Vec::new();
+    for entry in reads {
+        let (position, length) = (u128::from(entry.position), u128::from(entry.target.length));
+        match list.last_mut() {
+            Some(chunk) if chunk.position == position => chunk.length += length,
+            _ => list.push(Chunk { position, length }),
+        }
+    }
+    list
+}
+
+/// The length of the position-zero chunk, 0 if there is none.
+fn zero_length(reads: &[ReadSegment]) -> u128 {
+    reads.iter().filter(|entry| entry.position == 0).map(|entry| u128::from(entry.target.length)).sum()
+}
+
+/// Every place of a message, by what stands there, each list in order.
+#[derive(Default)]
+struct Places {
+    base: Vec<usize>,
+    chunks: Vec<usize>,
+    padding: Vec<usize>,
+}
+
+impl Places {
+    fn length(&self) -> usize {
+        self.base.len() + self.chunks.len() + self.padding.len()
+    }
+
+    /// List order: the position-zero chunk comes first.
+    fn pulled(&self, kind: Kind) -> Vec<usize> {
+        let base = if kind == Kind::Nomsg { &self.base[..] } else { &[] };
+        [base, &self.chunks].concat()
+    }
+}
+
+/// 12 to 16, then the places. The base's length is handed in: a state has its own.
+fn places(kind: Kind, reads: &[ReadSegment], base: u128, room: usize) -> Result<Places, u32> {
+    let at_zero = reads.iter().any(|entry| entry.position == 0);
+    match kind {
+        Kind::Msg if !at_zero => {}
+        Kind::Nomsg if at_zero => {}
+        _ => return Err(12),
+    }
+    if base % 4 != 0 {
+        return Err(13);
+    }
+    let chunks: Vec<Chunk> = chunks(reads).into_iter().filter(|chunk| chunk.position != 0).collect();
+    let (mut end, mut earlier) = (0, 0);
+    for chunk in &chunks {
+        // Behind the former's end the difference cannot fall below 0.
+        if chunk.position < end || chunk.position - earlier > base {
+            return Err(14);
+        }
+        end = chunk.position + chunk.rounded();
+        earlier += chunk.rounded();
+    }
+    let length = base + earlier;
+    if length > MAX_MESSAGE {
+        return Err(15);
+    }
+    if length > room as u128 {
+        return Err(16);
+    }
+    let mut places = Places::default();
+    let mut next = 0;
+    for chunk in &chunks {
+        let [start, end, behind] = [0, chunk.length, chunk.rounded()].map(|n| (chunk.position + n) as usize);
+        places.base.extend(next..start);
+        places.chunks.extend(start..end);
+        places.padding.extend(end..behind);
+        next = behind;
+    }
+    places.base.extend(next..length as usize);
+    Ok(places)
+}
+
+/// The state, or the number of the refusal, which leaves `out` alone.
+pub fn start(frame: &[u8], out: &mut [u8]) -> Result<State, u32> {
+    let (header, payload) = oracle::read(frame)?;
+    let base = match header.kind {
+        Kind::Nomsg => zero_length(&header.reads),
+        _ => payload.len() as u128,
+    };
+    let places = places(header.kind, &header.reads, base, out.len())?;
+    if header.kind == Kind::Msg {
+        places.base.iter().zip(payload).for_each(|(&place, &byte)| out[place] = byte);
+    }
+    places.padding.iter().for_each(|&place| out[place] = 0);
+    let (base, buffer) = (places.base.len(), out.len());
+    Ok(State { kind: header.kind, reads: header.reads, base, buffer, taken: 0 })
+}
+
+/// The places of a state that can arise, over the buffer length of its start; else 17.
+fn settled(state: &State, room: usize) -> Result<Places, u32> {
+    let State { kind, ref reads, base, buffer, taken } = *state;
+    let listed = reads.len() <= MAX_READS
+        && reads.iter().all(|entry| entry.position % 4 == 0)
+        && reads.is_sorted_by_key(|entry| entry.position);
+    let own_base = kind != Kind::Nomsg || base as u128 == zero_length(reads);
+    if !listed || !own_base || buffer != room {
+        return Err(17);
+    }
+    let places = places(kind, reads, base as u128, buffer).map_err(|_| 17u32)?;
+    if taken > places.pulled(kind).len() {
+        return Err(17);
+    }
+    Ok(places)
+}
+
+/// Takes a piece, or gives the number of the refusal, which leaves state and `out` alone.
+pub fn take(state: &mut State, piece: &[u8], out: &mut [u8]) -> Result<(), u32> {
+    let pulled = settled(state, out.len())?.pulled(state.kind);
+    let left = &pulled[state.taken..];
+    if piece.len() > left.len() {
+        return Err(18);
+    }
+    left.iter().zip(piece).for_each(|(&place, &byte)| out[place] = byte);
+    state.taken += piece.len();
+    Ok(())
+}
+
+/// The length of the message, which is the first part of the buffer, or the number of the refusal.
+pub fn ask(state: &State, room: usize) -> Result<usize, u32> {
+    let places = settled(state, room)?;
+    if state.taken < places.pulled(state.kind).len() {
+        return Err(19);
+    }
+    Ok(places.length())
+}

@@ -1,0 +1,329 @@
+//! The checks of start, piece, asking and message: call by call beside the oracle, list by list
+//! beside the tally, one cut beside another, and beside bytes that document 01 names.
+
+use super::{hex, Call, Checker, Form, Outcome, Port};
+use crate::abi::{flatten_state, unflatten_state, FlatState, FlatStateAnswer, Part, NOMSG};
+use crate::assembly::{self, MAX_MESSAGE};
+use crate::oracle::MAX_READS;
+use crate::tally::Tally;
+use std::fmt;
+use std::ops::Range;
+
+/// One of the calls behind a start.
+#[derive(Clone, PartialEq)]
+pub enum Step {
+    Piece(Vec<u8>),
+    Ask,
+}
+
+impl fmt::Debug for Step {
+    fn fmt(&self, f: &mut fmt::Formatter) -> fmt::Result {
+        match self {
+            Step::Piece(piece) => write!(f, "piece ({} bytes) {}", piece.len(), short(piece)),
+            Step::Ask => write!(f, "ask"),
+        }
+    }
+}
+
+/// A message of 1 MiB would bury its difference.
+fn short(bytes: &[u8]) -> String {
+    const MOST: usize = 2048;
+    let dots = if bytes.len() > MOST { "..." } else { "" };
+    hex(&bytes[..bytes.len().min(MOST)]) + dots
+}
+
+/// What an implementation made of a start and a list of calls.
+#[derive(Clone, Debug, PartialEq)]
+struct Trace {
+    start: u32,
+    /// Each number; beside an asking's, the bytes of the part handed back.
+    answers: Vec<(u32, Vec<u8>)>,
+    count: usize,
+    buffer: Vec<u8>,
+}
+
+impl<P: Port> Checker<P> {
+    /// The start of the first `length` bytes, with the others lying behind.
+    pub fn start_part(&mut self, bytes: &[u8], length: usize, room: usize) -> Outcome {
+        self.count();
+        let lent = self.lend(room);
+        let mut want = self.before.clone();
+        self.begin(bytes, length, &lent, &mut want).map(drop).map_err(|what| {
+            let (frame, buffer) = (short(&bytes[..length]), short(&self.before[lent]));
+            format!("{what}\nframe ({length} bytes): {frame}\nbuffer before ({room} bytes): {buffer}")
+        })
+    }
+
+    pub fn start(&mut self, frame: &[u8], room: usize) -> Outcome {
+        self.start_part(frame, frame.len(), room)
+    }
+
+    /// The implementation's start over the memory, the oracle's over `want`.
+    fn begin(
+        &mut self,
+        bytes: &[u8],
+        length: usize,
+        lent: &Range<usize>,
+        want: &mut [u8],
+    ) -> Result<FlatStateAnswer, String> {
+        let from = self.surround(bytes);
+        let got = self.port.start(&self.input[from..from + length], &mut self.memory[lent.clone()]);
+        self.seen.number(Call::Start, got.number);
+        let right = match assembly::start(&bytes[..length], &mut want[lent.clone()]) {
+            Ok(state) => FlatStateAnswer { state: flatten_state(&state), number: 0 },
+            Err(number) => FlatStateAnswer { state: FlatState::ZERO, number },
+        };
+        same_answer(&got, &right)?;
+        self.same_input(from, bytes)?;
+        self.same_memory(lent, want)?;
+        Ok(got)
+    }
+
+    fn same_input(&self, from: usize, bytes: &[u8]) -> Outcome {
+        if self.input[from..from + bytes.len()] != *bytes {
+            return Err("a byte lent for reading was changed".to_string());
+        }
+        Ok(())
+    }
+
+    /// Any state and a piece, over a buffer of any length that holds noise.
+    pub fn take(&mut self, state: &FlatState, piece: &[u8], room: usize) -> Outcome {
+        self.count();
+        let lent = self.lend(room);
+        let mut want = self.before.clone();
+        self.take_over(state, piece, &lent, &mut want).map(drop).map_err(|what| {
+            let (length, piece, buffer) = (piece.len(), short(piece), short(&self.before[lent]));
+            format!("{what}\n{state:?}\npiece ({length} bytes): {piece}\nbuffer ({room} bytes): {buffer}")
+        })
+    }
+
+    fn take_over(
+        &mut self,
+        state: &FlatState,
+        piece: &[u8],
+        lent: &Range<usize>,
+        want: &mut [u8],
+    ) -> Result<FlatStateAnswer, String> {
+        let from = self.surround(piece);
+        let lent_piece = &self.input[from..from + piece.len()];
+        let got = self.port.take_piece(state, lent_piece, &mut self.memory[lent.clone()]);
+        self.seen.number(Call::Piece, got.number);
+        // Only the count may change; unused places and all else stay as handed in.
+        let mut right = FlatStateAnswer { state: *state, number: 0 };
+        let taken = unflatten_state(state).and_then(|mut state| {
+            assembly::take(&mut state, piece, &mut want[lent.clone()]).map(|()| state.taken)
+        });
+        match taken {
+            Ok(taken) => right.state.taken = taken,
+            Err(number) => right.number = number,
+        }
+        same_answer(&got, &right)?;
+        self.same_input(from, piece)?;
+        self.same_memory(lent, want)?;
+        Ok(got)
+    }
+
+    /// Asking and the message, with any state and a buffer of any length.
+    pub fn ask(&mut self, state: &FlatState, room: usize) -> Outcome {
+        self.count();
+        let lent = self.lend(room);
+        let want = self.before.clone();
+        self.ask_over(state, &lent, &want)
+            .map(drop)
+            .map_err(|what| format!("{what}\n{state:?}\nbuffer of {room} bytes"))
+    }
+
+    fn ask_over(&mut self, state: &FlatState, lent: &Range<usize>, want: &[u8]) -> Result<u32, String> {
+        let number = self.port.ask(state, &mut self.memory[lent.clone()]);
+        let part = self.port.message(state, &mut self.memory[lent.clone()]);
+        self.seen.number(Call::Ask, number);
+        let right = unflatten_state(state).and_then(|state| assembly::ask(&state, lent.len()));
+        let (right, length) = match right {
+            Ok(length) => (0, length),
+            Err(number) => (number, 0),
+        };
+        if number != right {
+            return Err(format!("number of the asking: got {number}, want {right}"));
+        }
+        if part != (Part { offset: 0, length }) {
+            return Err(format!("message: got {part:?}, want offset 0, length {length}"));
+        }
+        self.same_memory(lent, want)?;
+        Ok(number)
+    }
+
+    /// A start and a list of calls, each with the state last given back and the buffer as last
+    /// left; beside the oracle after each call.
+    pub fn way(&mut self, frame: &[u8], before: &[u8], steps: &[Step]) -> Outcome {
+        self.count();
+        let lent = self.lend(before.len());
+        self.memory[lent.clone()].copy_from_slice(before);
+        self.walk(frame, &lent, steps).map_err(|what| told(what, &[frame], before, &[steps]))
+    }
+
+    fn walk(&mut self, frame: &[u8], lent: &Range<usize>, steps: &[Step]) -> Outcome {
+        let mut want = self.memory.clone();
+        let mut last = self.begin(frame, frame.len(), lent, &mut want)?;
+        let (mut finished, mut refused) = (false, false);
+        for (at, step) in steps.iter().enumerate() {
+            let number = match step {
+                Step::Piece(piece) => {
+                    last = self
+                        .take_over(&last.state, piece, lent, &mut want)
+                        .map_err(|what| format!("call {at}: {what}"))?;
+                    if finished && piece.is_empty() {
+                        self.seen.form(Form::EmptyPieceAtEnd);
+                    }
+                    last.number
+                }
+                Step::Ask => {
+                    let number = self
+                        .ask_over(&last.state, lent, &want)
+                        .map_err(|what| format!("call {at}: {what}"))?;
+                    finished |= number == 0;
+                    number
+                }
+            };
+            refused |= number != 0;
+        }
+        if finished {
+            self.finished(&last.state, refused);
+        }
+        Ok(())
+    }
+
+    fn finished(&mut self, state: &FlatState, refused: bool) {
+        let natural = unflatten_state(state).expect("a finished state");
+        let length = assembly::ask(&natural, state.buffer).expect("a finished state");
+        let inline = if state.kind == NOMSG { 0 } else { state.base };
+        let chunks = natural.reads.chunk_by(|one, two| one.position == two.position).count();
+        let forms = [
+            (if state.kind == NOMSG { Form::NomsgFinished } else { Form::MsgFinished }, true),
+            (Form::PaddedFinished, length > inline + state.taken),
+            (Form::SixteenChunksFinished, chunks == MAX_READS),
+            (Form::LargestFinished, length as u128 == MAX_MESSAGE),
+            (Form::RefusalBetween, refused),
+        ];
+        forms.into_iter().filter(|(_, seen)| *seen).for_each(|(form, _)| self.seen.form(form));
+    }
+
+    /// The implementation alone, with no look at the oracle.
+    fn trace(&mut self, frame: &[u8], before: &[u8], steps: &[Step]) -> Result<Trace, String> {
+        let lent = self.lend(before.len());
+        let buffer = &mut self.memory[lent.clone()];
+        buffer.copy_from_slice(before);
+        let mut last = self.port.start(frame, buffer);
+        let start = last.number;
+        let mut answers = Vec::new();
+        for step in steps {
+            answers.push(match step {
+                Step::Piece(piece) => {
+                    last = self.port.take_piece(&last.state, piece, buffer);
+                    (last.number, Vec::new())
+                }
+                Step::Ask => {
+                    let number = self.port.ask(&last.state, buffer);
+                    let part = self.port.message(&last.state, buffer);
+                    let bytes = buffer.get(part.offset..part.offset.saturating_add(part.length));
+                    (number, bytes.ok_or(format!("{part:?} lies outside the buffer"))?.to_vec())
+                }
+            });
+        }
+        let buffer = buffer.to_vec();
+        for outside in [0..lent.start, lent.end..self.memory.len()] {
+            if self.memory[outside.clone()] != self.before[outside] {
+                return Err("a byte outside the buffer was changed".to_string());
+            }
+        }
+        Ok(Trace { start, answers, count: last.state.taken, buffer })
+    }
+
+    /// Demand 3: any cut of an accepted start and any list, beside the tally, which sees no cut.
+    pub fn tallied(&mut self, uncut: &[u8], cut: &[u8], before: &[u8], steps: &[Step]) -> Outcome {
+        self.count();
+        let mut tally = Tally::new(uncut, before);
+        let answers = steps.iter().map(|step| match step {
+            Step::Piece(piece) => (tally.piece(piece), Vec::new()),
+            Step::Ask => tally.ask(),
+        });
+        let answers = answers.collect();
+        let want = Trace { start: 0, answers, count: tally.count(), buffer: tally.buffer() };
+        self.trace(cut, before, steps)
+            .and_then(|got| same_trace(&got, &want))
+            .map_err(|what| told(what, &[uncut, cut], before, &[steps]))
+    }
+
+    /// Two cuts of one start and two lists that take the same bytes: the same count, whole buffer
+    /// and answer to an asking.
+    pub fn two_cuts(&mut self, cuts: [&[u8]; 2], before: &[u8], lists: [&[Step]; 2]) -> Outcome {
+        self.count();
+        let mut run = |which: usize| -> Result<Trace, String> {
+            let steps = [lists[which], &[Step::Ask]].concat();
+            let mut trace = self.trace(cuts[which], before, &steps)?;
+            // Of the answers only the last one is the same in both.
+            trace.answers.drain(..lists[which].len());
+            Ok(trace)
+        };
+        let outcome = run(0).and_then(|one| same_trace(&one, &run(1)?));
+        if cuts[0] != cuts[1] {
+            self.seen.form(Form::CutsCompared);
+        }
+        outcome.map_err(|what| told(what, &cuts, before, &lists))
+    }
+
+    /// A frame and its pulled bytes, the message or number being that of document 01 itself.
+    pub fn worked(&mut self, frame: &[u8], pulled: &[u8], held: u8, want: Result<&[u8], u32>) -> Outcome {
+        self.count();
+        let room = want.map_or(64, <[u8]>::len) + 3;
+        let before = vec![held; room];
+        let steps = [Step::Piece(pulled.to_vec()), Step::Ask];
+        let got = self.trace(frame, &before, &steps)?;
+        let right = match want {
+            Ok(message) => {
+                let buffer = [message, &before[message.len()..]].concat();
+                let answers = vec![(0, vec![]), (0, message.to_vec())];
+                Trace { start: 0, answers, count: pulled.len(), buffer }
+            }
+            Err(number) => Trace { start: number, answers: vec![], count: 0, buffer: before.clone() },
+        };
+        let got = if want.is_err() { Trace { answers: vec![], count: 0, ..got } } else { got };
+        same_trace(&got, &right).map_err(|what| told(what, &[frame], &before, &[&steps]))
+    }
+}
+
+fn same_answer(got: &FlatStateAnswer, want: &FlatStateAnswer) -> Outcome {
+    if got.number != want.number {
+        return Err(format!("number: got {}, want {}", got.number, want.number));
+    }
+    if got.state != want.state {
+        return Err(format!("state: got {:?}\nwant {:?}", got.state, want.state));
+    }
+    Ok(())
+}
+
+fn same_trace(got: &Trace, want: &Trace) -> Outcome {
+    if got.start != want.start {
+        return Err(format!("number of the start: got {}, want {}", got.start, want.start));
+    }
+    if let Some(at) = (0..want.answers.len()).find(|&at| got.answers[at] != want.answers[at]) {
+        let [got, want] = [got, want].map(|trace| {
+            let (number, part) = &trace.answers[at];
+            format!("{number} and {}", short(part))
+        });
+        return Err(format!("answer {at}: got {got}\nwant {want}"));
+    }
+    if got.count != want.count {
+        return Err(format!("count: got {}, want {}", got.count, want.count));
+    }
+    if got.buffer != want.buffer {
+        return Err(format!("buffer: got {}\nwant {}", short(&got.buffer), short(&want.buffer)));
+    }
+    Ok(())
+}
+
+fn told(what: String, frames: &[&[u8]], before: &[u8], lists: &[&[Step]]) -> String {
+    let frames: Vec<String> = frames.iter().map(|frame| format!("frame: {}", short(frame))).collect();
+    let lists: Vec<String> = lists.iter().map(|steps| format!("calls: {steps:?}")).collect();
+    let buffer = format!("buffer before ({} bytes): {}", before.len(), short(before));
+    format!("{what}\n{}\n{buffer}\n{}", frames.join("\n"), lists.join("\n"))
+}

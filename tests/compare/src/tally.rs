@@ -1,0 +1,77 @@
+//! The plain tally of demand 3, in document 01's words: it knows neither cut nor state, and keeps only T.
+
+use crate::oracle::{self, Kind};
+use std::collections::BTreeMap;
+
+pub struct Tally {
+    /// The buffer as before the start, but with an inline base and all padding at their places.
+    buffer: Vec<u8>,
+    pulled: Vec<usize>,
+    /// B + R1 + R2 + ...
+    length: usize,
+    /// T
+    taken: Vec<u8>,
+}
+
+impl Tally {
+    /// Fed the uncut frame of an accepted start and the buffer before it.
+    pub fn new(frame: &[u8], before: &[u8]) -> Self {
+        let (header, inline) = oracle::read(frame).expect("an accepted start");
+        let mut totals = BTreeMap::<usize, usize>::new();
+        for entry in &header.reads {
+            *totals.entry(entry.position as usize).or_default() += entry.target.length as usize;
+        }
+        let zero = totals.remove(&0);
+        let base = if header.kind == Kind::Nomsg { zero.expect("a base") } else { inline.len() };
+        let length = base + totals.values().map(|total| total.next_multiple_of(4)).sum::<usize>();
+
+        let mut fill = vec![true; length];
+        for (&position, total) in &totals {
+            fill[position..position + total.next_multiple_of(4)].fill(false);
+        }
+        let base: Vec<usize> = (0..length).filter(|&place| fill[place]).collect();
+        let mut buffer = before.to_vec();
+        for (&position, &total) in &totals {
+            buffer[position + total..position + total.next_multiple_of(4)].fill(0);
+        }
+        let mut pulled = Vec::new();
+        if header.kind == Kind::Nomsg {
+            pulled.extend(base);
+        } else {
+            base.into_iter().zip(inline).for_each(|(place, &byte)| buffer[place] = byte);
+        }
+        pulled.extend(totals.iter().flat_map(|(&position, &total)| position..position + total));
+        Tally { buffer, pulled, length, taken: Vec::new() }
+    }
+
+    /// N
+    pub fn to_pull(&self) -> usize {
+        self.pulled.len()
+    }
+
+    pub fn piece(&mut self, piece: &[u8]) -> u32 {
+        if self.taken.len() + piece.len() > self.pulled.len() {
+            return 18;
+        }
+        self.taken.extend_from_slice(piece);
+        0
+    }
+
+    /// The number and the part handed back.
+    pub fn ask(&self) -> (u32, Vec<u8>) {
+        if self.taken.len() != self.pulled.len() {
+            return (19, Vec::new());
+        }
+        (0, self.buffer()[..self.length].to_vec())
+    }
+
+    pub fn count(&self) -> usize {
+        self.taken.len()
+    }
+
+    pub fn buffer(&self) -> Vec<u8> {
+        let mut buffer = self.buffer.clone();
+        self.pulled.iter().zip(&self.taken).for_each(|(&place, &byte)| buffer[place] = byte);
+        buffer
+    }
+}
