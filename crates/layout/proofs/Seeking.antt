@@ -4,9 +4,9 @@ use mathlib.Core.Path.{_≡_, sym, ap, subst, _∙_}
 use mathlib.Core.Bool.{true}
 use mathlib.Core.List.{List, [], _∷_, _++_}
 use Prim.Native.Nat.{ℕ, _+_, _-_, _≤_, _<_}
-use native.Mathlib.Nat.{add-zero}
+use native.Mathlib.Nat.{add-zero, add-assoc}
 use native.Mathlib.Omega.{arith}
-use lib.ListN.{drop}
+use lib.ListN.{length, drop, length-drop}
 use lib.Dec.{leb}
 use borrow.Author.Tests.{leb-true}
 use Rattle.wire.specs.declared.ReadSegment.{ReadSegment}
@@ -17,7 +17,7 @@ use Rattle.layout.specs.Walks.{joinedRun, endedLength, remaining, Seeks}
 use Rattle.layout.specs.declared.Run.{Run}
 use Rattle.layout.proofs.Remaining.{Walk, Headed, Step, goes, opens, ends, step, at-position, at-first, Last, nothing, itself, last}
 use Rattle.layout.proofs.Stood.{rounded-none}
-use Rattle.layout.proofs.Putting.{drop-within, drop-past}
+use Rattle.layout.proofs.Putting.{drop-within, drop-past, length-places}
 
 -- The places behind k of `all` are those of rs behind `left`.
 unfoldable pub Onward : List ℕ → ℕ → List Run → ℕ → Type 0
@@ -51,6 +51,18 @@ pub chunk-start : (xs : List ReadSegment) (k : ℕ) → k < totalLength (otherCh
 unfolding Onward
 chunk-start xs k h = record { some = rw (at-first xs) h; onward = λ x. rw (at-first xs) }
 
+-- A byte further on.
+pub chunk-advance : (cs : List Run) (k left m : ℕ) (w : Run) (xs : List ReadSegment) → k + m < totalLength cs → ChunkSought cs k left w xs → ChunkSought cs (k + m) (left + m) w xs
+unfolding Onward
+chunk-advance cs k left m w xs h s =
+    let there = ap length (s .onward m) in
+    let from-all = length-drop (k + m) (places cs) in
+    let from-rest = length-drop (left + m) (places (remaining w xs)) in
+    record {
+      some = omega (arith, length-places cs, length-places (remaining w xs));
+      onward = λ x. rw (add-assoc k m x, add-assoc left m x) (s .onward (m + x));
+    }
+
 module _ (cs : List Run) (k left : ℕ) (w : Run) (x : ReadSegment) (xs : List ReadSegment) (walk : Walk w (x ∷ xs)) (s : ChunkSought cs k left w (x ∷ xs)) where
   pub chunk-here : left < endedLength w x → Seeks (places cs) k (run (w .at + left) (endedLength w x - left))
   chunk-here lt = by (step w x xs walk)
@@ -76,15 +88,26 @@ module _ (cs : List Run) (k left : ℕ) (w : Run) (x : ReadSegment) (xs : List R
           let total : left < w .length + totalLength (remaining (joinedRun w x) xs) = rw is at (s .some) in
           rw z (record { some = omega arith; onward = seek-next (places cs) k w (remaining (joinedRun w x) xs) left (omega arith) (rw is at (s .onward)) })
 
-pub chunk-last : (cs : List Run) (k left : ℕ) (w : Run) → Walk w [] → ChunkSought cs k left w [] → (left < w .length) × Seeks (places cs) k (run (w .at + left) (w .length - left))
-unfolding totalLength
+-- It lies in the last chunk, with all that come behind it.
+pub record LastByte (cs : List Run) (k left : ℕ) (w : Run) : Type 0 where
+  pub some : left < w .length
+  pub rest : totalLength cs - k ≡ w .length - left
+  pub seeks : Seeks (places cs) k (run (w .at + left) (w .length - left))
+
+pub chunk-last : (cs : List Run) (k left : ℕ) (w : Run) → Walk w [] → ChunkSought cs k left w [] → LastByte cs k left w
+unfolding totalLength Onward
 chunk-last cs k left w walk s = by (last w walk)
   where
-    by : Last w → (left < w .length) × Seeks (places cs) k (run (w .at + left) (w .length - left))
+    by : Last w → LastByte cs k left w
     by (nothing z is) = absurd (let some = rw is at (s .some) in omega arith)
     by (itself is) =
         let some : left < w .length + 0 = rw is at (s .some) in
-        (omega arith, seek-here (places cs) k w [] left (omega arith) (rw is at (s .onward)))
+        let long : length (drop (k + 0) (places cs)) ≡ length (drop (left + 0) (places (w ∷ []))) = ap length (rw is at (s .onward 0)) in
+        record {
+          some = omega arith;
+          rest = omega (arith, long, length-drop (k + 0) (places cs), length-drop (left + 0) (places (w ∷ [])), length-places cs, length-places (w ∷ []));
+          seeks = seek-here (places cs) k w [] left (omega arith) (rw is at (s .onward));
+        }
 
 -- Before the chunks rs: all rounded lengths of those before, and where the gap before rs starts.
 pub record Gap (base : ℕ) (cs : List Run) (k earlier start : ℕ) (rs : List Run) : Type 0 where
@@ -98,9 +121,9 @@ same-run : (all : List ℕ) (k p q l m : ℕ) → p ≡ q → l ≡ m → Seeks 
 same-run all k p q l m e f s = subst (λ (n : ℕ). Seeks all k (run q n)) f (subst (λ (n : ℕ). Seeks all k (run n l)) e s)
 
 -- The byte lies in the gap before a chunk at p, or behind the chunk c, or in the gap behind all.
-gap-within : (base : ℕ) (cs : List Run) (k earlier start p : ℕ) (rs : List Run) → Gap base cs k earlier start rs → Headed p rs → k + earlier < p → Seeks (basePlaces base cs) k (run (k + earlier) (p - (k + earlier)))
+gap-before : (base : ℕ) (cs : List Run) (k earlier start p : ℕ) (rs : List Run) → Gap base cs k earlier start rs → Headed p rs → k + earlier < p → Seeks (basePlaces base cs) k (run (k + earlier) (p - (k + earlier)))
 unfolding gaps
-gap-within base cs k earlier start p rs g h lt =
+gap-before base cs k earlier start p rs g h lt =
     let reached = g .reached in
     same-run (basePlaces base cs) k (start + (k + earlier - start)) (k + earlier) (p - start - (k + earlier - start)) (p - (k + earlier)) (omega arith) (omega arith)
     (seek-here (basePlaces base cs) k _ _ (k + earlier - start) (omega arith) (rw (h .is) at (g .onward)))
@@ -143,6 +166,20 @@ gap-start base xs k s =
       passed = omega arith;
     }
 
+-- A byte further on.
+pub gap-advance : (base : ℕ) (cs : List Run) (k earlier m : ℕ) (w : Run) (xs : List ReadSegment) → GapSought base cs k earlier w xs → GapSought base cs (k + m) earlier w xs
+unfolding Onward
+gap-advance base cs k earlier m w xs s =
+    let g = s .gap in
+    let reached = g .reached in
+    let passed = s .passed in
+    let further : k + m + earlier - s .start ≡ k + earlier - s .start + m = omega arith in
+    record {
+      start = s .start;
+      gap = record { reached = omega arith; onward = λ x. rw (further, add-assoc k m x, add-assoc (k + earlier - s .start) m x) (g .onward (m + x)); sum = g .sum; stand = g .stand };
+      passed = omega arith;
+    }
+
 module _ (base : ℕ) (cs : List Run) (k earlier : ℕ) (w : Run) (x : ReadSegment) (xs : List ReadSegment) (walk : Walk w (x ∷ xs)) (s : GapSought base cs k earlier w (x ∷ xs)) (size : ℕ) (e : size ≡ roundedUp (endedLength w x)) where
   none-ended : endedLength w x ≡ 0 → earlier + size ≡ earlier
   none-ended z = let none : size ≡ 0 = e ∙ ap roundedUp z ∙ rounded-none in omega arith
@@ -160,8 +197,8 @@ module _ (base : ℕ) (cs : List Run) (k earlier : ℕ) (w : Run) (x : ReadSegme
     where
       by : Step w x xs → Seeks (basePlaces base cs) k (run (k + (earlier + size)) (x .position - (k + (earlier + size))))
       by (goes here z is) = absurd (let none = none-ended z in let passed = s .passed in omega arith)
-      by (opens first z is h) = gap-within base cs k (earlier + size) (s .start) (x .position) _ (kept z is) h lt
-      by (ends z is h) = gap-within base cs k (earlier + size) (w .at + size) (x .position) _ (ended z is) h lt
+      by (opens first z is h) = gap-before base cs k (earlier + size) (s .start) (x .position) _ (kept z is) h lt
+      by (ends z is h) = gap-before base cs k (earlier + size) (w .at + size) (x .position) _ (ended z is) h lt
 
   pub gap-next : x .position ≤ k + (earlier + size) → GapSought base cs k (earlier + size) (joinedRun w x) xs
   gap-next le = by (step w x xs walk)
@@ -173,6 +210,10 @@ module _ (base : ℕ) (cs : List Run) (k earlier : ℕ) (w : Run) (x : ReadSegme
       by (goes here z is) = record { start = s .start; gap = kept z is; passed = passed }
       by (opens first z is h) = record { start = s .start; gap = kept z is; passed = passed }
       by (ends z is h) = record { start = w .at + size; gap = ended z is; passed = passed }
+
+  -- It lies in the message.
+  pub gap-within : x .position ≤ k + (earlier + size) → k ≤ base → k + (earlier + size) ≤ messageLength base cs
+  gap-within le most = let sum = gap-next le .gap .sum in omega arith
 
 pub gap-last : (base : ℕ) (cs : List Run) (k earlier size : ℕ) (w : Run) → Walk w [] → k < base → size ≡ roundedUp (w .length) → GapSought base cs k earlier w [] →
     Seeks (basePlaces base cs) k (run (k + (earlier + size)) (base - k))

@@ -1,4 +1,4 @@
-// Where each byte of a message goes: the chunks of a read list, the checks on them, and the run of places that a byte begins.
+// Where each byte of a message goes: the chunks of a read list, and the checks on them.
 // Internal to the library.
 use header::Kind;
 use wire::ReadSegment;
@@ -7,8 +7,8 @@ ghost use mathlib.Core.Bool.{true};
 ghost use Prim.Native.Nat.{_+_, _-_, _≤_, _<_};
 ghost use lib.ListN.{take};
 ghost use Rattle.lists.specs.Lists.{positionsNumber};
-ghost use Rattle.layout.specs.Layout.{otherChunks, roundedUp, totalLength, kindFits, stands, places, basePlaces};
-ghost use Rattle.layout.specs.Walks.{sumsWith, sumsOf, endedLength, joinedRun, Near, standingOf, measuredOf, Seeks};
+ghost use Rattle.layout.specs.Layout.{otherChunks, roundedUp, kindFits};
+ghost use Rattle.layout.specs.Walks.{sumsWith, sumsOf, endedLength, joinedRun, Near, standingOf, measuredOf};
 
 // "kind and lists do not fit"
 pub const KIND_AND_LISTS: u32 = 12;
@@ -50,14 +50,14 @@ pub struct Measured {
     pub message: usize,
 }
 
-fn wide(x: u32) -> usize
+pub fn wide(x: u32) -> usize
     ensures { λ r. ⌜ (r ≡ x) × (r < 4294967296) ⌝ }
 {
     x as usize
 }
 
 // A length, rounded up to a multiple of 4.
-fn rounded(length: usize) -> usize
+pub fn rounded(length: usize) -> usize
     requires { ⌜ length ≤ 68719476800 ⌝ }
     ensures { λ r. ⌜ (r ≡ roundedUp length) × (length ≤ r) × (r ≤ length + 3) ⌝ }
 {
@@ -218,55 +218,4 @@ pub fn measure(
         return refused(wire::BUFFER_SHORT);
     }
     Measured { number: 0, message }
-}
-
-// The run that byte k of the base begins.
-pub fn seek_base(segments: [ReadSegment; 16], n: usize, base: usize, k: usize) -> Run
-    requires { ⌜ (n ≤ 16) × (positionsNumber 0 (take n segments) 0 ≡ 0) × (stands base 0 0 (otherChunks (take n segments)) ≡ true) × (k < base) × (base ≤ 1048576) ⌝ }
-    ensures { λ r. ⌜ Seeks (basePlaces base (otherChunks (take n segments))) k r ⌝ }
-{
-    let mut w = Run { at: 0, length: 0 };
-    let mut earlier = 0;
-    for i in 0..n {
-        let x = segments[i];
-        let position = wide(x.position);
-        earlier += rounded(ended(w, x));
-        let here = k + earlier;
-        if here < position {
-            return Run {
-                at: here,
-                length: position - here,
-            };
-        }
-        w = joined(w, x);
-    }
-    Run {
-        at: k + earlier + rounded(w.length),
-        length: base - k,
-    }
-}
-
-// The run that byte k of the chunks begins.
-pub fn seek_chunk(segments: [ReadSegment; 16], n: usize, k: usize) -> Run
-    requires { ⌜ (n ≤ 16) × (positionsNumber 0 (take n segments) 0 ≡ 0) × (k < totalLength (otherChunks (take n segments))) ⌝ }
-    ensures { λ r. ⌜ Seeks (places (otherChunks (take n segments))) k r ⌝ }
-{
-    let mut w = Run { at: 0, length: 0 };
-    let mut left = k;
-    for i in 0..n {
-        let x = segments[i];
-        let length = ended(w, x);
-        if left < length {
-            return Run {
-                at: w.at + left,
-                length: length - left,
-            };
-        }
-        left -= length;
-        w = joined(w, x);
-    }
-    Run {
-        at: w.at + left,
-        length: w.length - left,
-    }
 }

@@ -1,14 +1,14 @@
 -- Laws about the places of a message that passed its checks, and about bytes put there run by run.
 -- Assumes nothing.
 use mathlib.Core.Path.{_≡_, refl, sym, ap, subst, _∙_}
-use mathlib.Core.Bool.{Bool, true, false}
+use mathlib.Core.Bool.{Bool, true, false, cond}
 use mathlib.Core.List.{List, [], _∷_, _++_, append-assoc, append-nil}
-use Prim.Native.Nat.{ℕ, zero, suc, _+_, _-_, _≤_, _<_}
+use Prim.Native.Nat.{ℕ, zero, suc, _+_, _-_, _≤_, _<_, min}
 use native.Mathlib.Omega.{arith}
-use lib.ListN.{length, take, drop, replicate, length-append, length-drop, length-replicate, replicate-append-replicate}
-use lib.Seq.{take-add, drop-drop, drop-append-le, drop-append-add, drop-at, length-take-le}
-use lib.Dec.{leb, eqb}
-use borrow.Author.Tests.{leb-true, ltb-true, ltb-false, eqb-true, eqb-false}
+use lib.ListN.{length, take, drop, replicate, length-append, length-drop, length-replicate, replicate-append-replicate, take-append-drop}
+use lib.Seq.{take-add, take-length, drop-drop, drop-append-le, drop-append-add, drop-at, drop-length, length-take-le}
+use lib.Dec.{leb, ltb, eqb}
+use borrow.Author.Tests.{leb-true, leb-false, ltb-true, ltb-false, eqb-true, eqb-false}
 use Rattle.wire.specs.Wire.{stored}
 use Rattle.wire.specs.declared.ReadSegment.{ReadSegment}
 use Rattle.wire.proofs.Laws.{both-hold}
@@ -16,10 +16,11 @@ use Rattle.layout.specs.Places.{from, put}
 use Rattle.layout.specs.Layout.{run, otherChunks, roundedUp, roundedTotal, totalLength, stands, places, gaps, paddings, paddingPlaces, basePlaces, messageLength}
 use Rattle.layout.specs.Walks.{joinedRun, endedLength, remaining, Seeks}
 use Rattle.layout.specs.declared.Run.{Run}
-use Rattle.layout.proofs.Putting.{put-append, put-first, put-from, put-run, length-from, length-places}
+use Rattle.layout.proofs.Putting.{put-append, put-first, put-from, put-run, put-none, length-from, length-places}
 use Rattle.layout.proofs.Remaining.{Walk, headed, Step, goes, opens, ends, step, at-first, Last, nothing, itself, last}
 use Rattle.layout.proofs.Stood.{rounded-most, rounded-none}
-use Rattle.placing.specs.Sources.{inBase, behindBase, sourcePlaces}
+use Rattle.layout.proofs.Seeking.{GapSought, gap-advance, gap-here, gap-next, gap-within, ChunkSought, chunk-advance, chunk-here, chunk-next}
+use Rattle.placing.specs.Sources.{sourcePlaces}
 
 -- What `stands` says, as facts: a chunk stands at or behind `end`, and at or before `most`, where the base would end if no chunk came any more.
 unfoldable pub Placed : ℕ → ℕ → List Run → Type 0
@@ -86,17 +87,16 @@ pub length-base : (base : ℕ) (cs : List Run) → stands base 0 0 cs ≡ true �
 unfolding basePlaces
 length-base base cs e = omega (arith, length-gaps 0 base (messageLength base cs) cs (omega arith) (all-placed base cs e) refl)
 
+pub within-base : (base : ℕ) (cs : List Run) → stands base 0 0 cs ≡ true → Within (messageLength base cs) (basePlaces base cs)
+unfolding basePlaces
+within-base base cs e = within-gaps _ 0 base cs (omega arith) (all-placed base cs e) (omega arith)
+
+pub within-places : (base : ℕ) (cs : List Run) → stands base 0 0 cs ≡ true → Within (messageLength base cs) (places cs)
+within-places base cs e = within-chunks _ 0 base cs (all-placed base cs e) (omega arith)
+
 -- How many places there are in all.
 pub length-based : (base : ℕ) (cs : List Run) → stands base 0 0 cs ≡ true → length (sourcePlaces true base cs) ≡ base + totalLength cs
 length-based base cs e = rw (length-append, length-base base cs e, length-places cs)
-
--- All of them lie in the message.
-pub within-source : (based : Bool) (base : ℕ) (cs : List Run) → stands base 0 0 cs ≡ true → Within (messageLength base cs) (sourcePlaces based base cs)
-unfolding basePlaces
-within-source true base cs e =
-    let p = all-placed base cs e in
-    within-append _ (places (gaps 0 (messageLength base cs) cs)) (places cs) (within-gaps _ 0 base cs (omega arith) p (omega arith)) (within-chunks _ 0 base cs p (omega arith))
-within-source false base cs e = within-chunks _ 0 base cs (all-placed base cs e) (omega arith)
 
 -- The run that a byte begins ends within the places.
 seek-most : (all : List ℕ) (k : ℕ) (r : Run) → Seeks all k r → k + r .length ≤ length all
@@ -175,30 +175,29 @@ placed-there end most (d ∷ ds) rs c p = omega (arith, placed-there (d .at + ro
 chunk-within : (base : ℕ) (cs ds rs : List Run) (c : Run) → stands base 0 0 cs ≡ true → cs ≡ ds ++ (c ∷ rs) → c .at + roundedUp (c .length) ≤ messageLength base cs
 chunk-within base cs ds rs c s e = rw e (placed-there 0 base ds rs c (rw e at (all-placed base cs s)))
 
--- In a walk over a read list: the chunks before the one at hand have their padding.
-pub record Padded (cs : List Run) (w : Run) (xs : List ReadSegment) (before out : List ℕ) : Type 0 where
+-- In a walk over a read list: the chunks before the one at hand.
+pub record Parted (cs : List Run) (w : Run) (xs : List ReadSegment) : Type 0 where
   pub past : List Run
   pub all : cs ≡ past ++ remaining w xs
-  pub filled : out ≡ put (paddingPlaces past) (replicate (length (paddingPlaces past)) 0) before
 
-pub padded-start : (xs : List ReadSegment) (out : List ℕ) → Padded (otherChunks xs) (run 0 0) xs out out
-unfolding paddingPlaces paddings places put
-padded-start xs out = record { past = []; all = rw (at-first xs); filled = refl }
+pub parted-start : (xs : List ReadSegment) → Parted (otherChunks xs) (run 0 0) xs
+parted-start xs = record { past = []; all = rw (at-first xs) }
 
--- With the padding of one chunk more.
-padded-more : (cs past : List Run) (c : Run) (w : Run) (xs : List ReadSegment) (n : ℕ) (before out after : List ℕ) → cs ≡ past ++ (c ∷ remaining w xs) → n ≡ roundedUp (c .length) - c .length →
-    out ≡ put (paddingPlaces past) (replicate (length (paddingPlaces past)) 0) before → after ≡ stored out (c .at + c .length) (replicate n 0) → Padded cs w xs before after
-unfolding paddingPlaces
-padded-more cs past c w xs n before out after all e now then =
-    record {
-      past = past ++ (c ∷ []);
-      all = all ∙ sym (append-assoc past (c ∷ []) (remaining w xs));
-      filled = then ∙ rw (paddings-next past c, places-next, now, e) (sym (zeros-next (places (paddings past)) before (c .at + c .length) (roundedUp (c .length) - c .length)));
-    }
+ended-parted : (cs past : List Run) (c w : Run) (xs : List ReadSegment) → cs ≡ past ++ (c ∷ remaining w xs) → Parted cs w xs
+ended-parted cs past c w xs e = record { past = past ++ (c ∷ []); all = e ∙ sym (append-assoc past (c ∷ []) (remaining w xs)) }
 
-module _ (base : ℕ) (cs : List Run) (w : Run) (before out : List ℕ) (stand : stands base 0 0 cs ≡ true) where
+module _ (cs : List Run) (w : Run) (x : ReadSegment) (xs : List ReadSegment) (k : Walk w (x ∷ xs)) (p : Parted cs w (x ∷ xs)) where
+  pub parted-next : Parted cs (joinedRun w x) xs
+  parted-next = by (step w x xs k)
+    where
+      by : Step w x xs → Parted cs (joinedRun w x) xs
+      by (goes here z is) = record { past = p .past; all = rw is at (p .all) }
+      by (opens first z is h) = record { past = p .past; all = rw is at (p .all) }
+      by (ends z is h) = ended-parted cs (p .past) w (joinedRun w x) xs (rw is at (p .all))
+
+module _ (base : ℕ) (cs : List Run) (w : Run) (stand : stands base 0 0 cs ≡ true) where
   -- The chunk at hand stands within the message.
-  hand-within : (xs : List ReadSegment) → Walk w xs → Padded cs w xs before out → w .at ≤ messageLength base cs
+  hand-within : (xs : List ReadSegment) → Walk w xs → Parted cs w xs → w .at ≤ messageLength base cs
   hand-within xs k p = by (eqb (w .at) 0) refl
     where
       by : (b : Bool) → eqb (w .at) 0 ≡ b → w .at ≤ messageLength base cs
@@ -208,54 +207,207 @@ module _ (base : ℕ) (cs : List Run) (w : Run) (before out : List ℕ) (stand :
           let most = chunk-within base cs (p .past) (h .rest) (run (w .at) (h .size)) stand (rw (h .is) at (p .all)) in
           omega arith
 
-  module _ (x : ReadSegment) (xs : List ReadSegment) (k : Walk w (x ∷ xs)) (p : Padded cs w (x ∷ xs) before out) where
-    pub ended-within : w .at + roundedUp (endedLength w x) ≤ messageLength base cs
-    ended-within = by (step w x xs k)
-      where
-        hand : endedLength w x ≡ 0 → w .at + roundedUp (endedLength w x) ≤ messageLength base cs
-        hand z = rw (z, rounded-none) (omega (arith, hand-within (x ∷ xs) k p))
+  -- So does a chunk that a segment ends, with its padding, and the last one.
+  pub ended-within : (x : ReadSegment) (xs : List ReadSegment) → Walk w (x ∷ xs) → Parted cs w (x ∷ xs) → w .at + roundedUp (endedLength w x) ≤ messageLength base cs
+  ended-within x xs k p = by (step w x xs k)
+    where
+      hand : endedLength w x ≡ 0 → w .at + roundedUp (endedLength w x) ≤ messageLength base cs
+      hand z = rw (z, rounded-none) (omega (arith, hand-within (x ∷ xs) k p))
 
-        by : Step w x xs → w .at + roundedUp (endedLength w x) ≤ messageLength base cs
-        by (goes here z is) = hand z
-        by (opens first z is h) = hand z
-        by (ends z is h) = rw z (chunk-within base cs (p .past) (remaining (joinedRun w x) xs) w stand (rw is at (p .all)))
+      by : Step w x xs → w .at + roundedUp (endedLength w x) ≤ messageLength base cs
+      by (goes here z is) = hand z
+      by (opens first z is h) = hand z
+      by (ends z is h) = rw z (chunk-within base cs (p .past) (remaining (joinedRun w x) xs) w stand (rw is at (p .all)))
 
-    pub padded-next : (n : ℕ) (after : List ℕ) → n ≡ roundedUp (endedLength w x) - endedLength w x → after ≡ stored out (w .at + endedLength w x) (replicate n 0) → Padded cs (joinedRun w x) xs before after
-    unfolding stored
-    padded-next n after e then = by (step w x xs k)
-      where
-        same : endedLength w x ≡ 0 → remaining w (x ∷ xs) ≡ remaining (joinedRun w x) xs → Padded cs (joinedRun w x) xs before after
-        same z is =
-            let none : n ≡ 0 = (let r = ap roundedUp z ∙ rounded-none in omega arith) in
-            let kept : after ≡ out = then ∙ rw none in
-            record { past = p .past; all = rw is at (p .all); filled = kept ∙ p .filled }
+  pub last-within : Walk w [] → Parted cs w [] → w .at + roundedUp (w .length) ≤ messageLength base cs
+  last-within k p = by (last w k)
+    where
+      by : Last w → w .at + roundedUp (w .length) ≤ messageLength base cs
+      by (nothing z is) = rw (z, rounded-none) (omega (arith, hand-within [] k p))
+      by (itself is) = chunk-within base cs (p .past) [] w stand (rw is at (p .all))
 
-        by : Step w x xs → Padded cs (joinedRun w x) xs before after
-        by (goes here z is) = same z is
-        by (opens first z is h) = same z is
-        by (ends z is h) = padded-more cs (p .past) w (joinedRun w x) xs n before out after (rw is at (p .all)) (rw z at e) (p .filled) (rw z at then)
+-- The chunks before the one at hand have their padding.
+pub record Padded (cs : List Run) (w : Run) (xs : List ReadSegment) (before out : List ℕ) : Type 0 where
+  pub parts : Parted cs w xs
+  pub filled : out ≡ put (paddingPlaces (parts .past)) (replicate (length (paddingPlaces (parts .past))) 0) before
 
-  module _ (k : Walk w []) (p : Padded cs w [] before out) where
-    pub last-within : w .at + roundedUp (w .length) ≤ messageLength base cs
-    last-within = by (last w k)
-      where
-        by : Last w → w .at + roundedUp (w .length) ≤ messageLength base cs
-        by (nothing z is) = rw (z, rounded-none) (omega (arith, hand-within [] k p))
-        by (itself is) = chunk-within base cs (p .past) [] w stand (rw is at (p .all))
+pub padded-start : (xs : List ReadSegment) (out : List ℕ) → Padded (otherChunks xs) (run 0 0) xs out out
+unfolding paddingPlaces paddings places put
+padded-start xs out = record { parts = record { past = []; all = rw (at-first xs) }; filled = refl }
 
-    pub padded-last : (n : ℕ) (after : List ℕ) → n ≡ roundedUp (w .length) - w .length → after ≡ stored out (w .at + w .length) (replicate n 0) → after ≡ put (paddingPlaces cs) (replicate (length (paddingPlaces cs)) 0) before
-    unfolding stored otherChunks
-    padded-last n after e then = by (last w k)
-      where
-        by : Last w → after ≡ put (paddingPlaces cs) (replicate (length (paddingPlaces cs)) 0) before
-        by (nothing z is) =
-            let none : n ≡ 0 = (let r = ap roundedUp z ∙ rounded-none in omega arith) in
-            let all : cs ≡ p .past = (rw is at (p .all)) ∙ append-nil (p .past) in
-            then ∙ rw (none, all) (p .filled)
-        by (itself is) =
-            let made = padded-more cs (p .past) w (run 0 0) [] n before out after ((rw is at (p .all)) ∙ ap (λ (rs : List Run). p .past ++ (w ∷ rs)) (sym (at-first []))) e (p .filled) then in
-            let all : cs ≡ made .past = made .all ∙ ap (λ (rs : List Run). made .past ++ rs) (at-first []) ∙ append-nil (made .past) in
-            rw all (made .filled)
+-- With the padding of one chunk more.
+padded-more : (cs past : List Run) (c : Run) (w : Run) (xs : List ReadSegment) (n : ℕ) (before out after : List ℕ) → cs ≡ past ++ (c ∷ remaining w xs) → n ≡ roundedUp (c .length) - c .length →
+    out ≡ put (paddingPlaces past) (replicate (length (paddingPlaces past)) 0) before → after ≡ stored out (c .at + c .length) (replicate n 0) → Padded cs w xs before after
+unfolding paddingPlaces
+padded-more cs past c w xs n before out after all e now then =
+    record {
+      parts = record { past = past ++ (c ∷ []); all = all ∙ sym (append-assoc past (c ∷ []) (remaining w xs)) };
+      filled = then ∙ rw (paddings-next past c, places-next, now, e) (sym (zeros-next (places (paddings past)) before (c .at + c .length) (roundedUp (c .length) - c .length)));
+    }
+
+module _ (cs : List Run) (w : Run) (before out : List ℕ) where
+  pub padded-next : (x : ReadSegment) (xs : List ReadSegment) → Walk w (x ∷ xs) → Padded cs w (x ∷ xs) before out → (n : ℕ) (after : List ℕ) → n ≡ roundedUp (endedLength w x) - endedLength w x → after ≡ stored out (w .at + endedLength w x) (replicate n 0) → Padded cs (joinedRun w x) xs before after
+  unfolding stored
+  padded-next x xs k p n after e then = by (step w x xs k)
+    where
+      same : endedLength w x ≡ 0 → remaining w (x ∷ xs) ≡ remaining (joinedRun w x) xs → Padded cs (joinedRun w x) xs before after
+      same z is =
+          let none : n ≡ 0 = (let r = ap roundedUp z ∙ rounded-none in omega arith) in
+          let kept : after ≡ out = then ∙ rw none in
+          record { parts = record { past = p .parts .past; all = rw is at (p .parts .all) }; filled = kept ∙ p .filled }
+
+      by : Step w x xs → Padded cs (joinedRun w x) xs before after
+      by (goes here z is) = same z is
+      by (opens first z is h) = same z is
+      by (ends z is h) = padded-more cs (p .parts .past) w (joinedRun w x) xs n before out after (rw is at (p .parts .all)) (rw z at e) (p .filled) (rw z at then)
+
+  pub padded-last : Walk w [] → Padded cs w [] before out → (n : ℕ) (after : List ℕ) → n ≡ roundedUp (w .length) - w .length → after ≡ stored out (w .at + w .length) (replicate n 0) → after ≡ put (paddingPlaces cs) (replicate (length (paddingPlaces cs)) 0) before
+  unfolding stored otherChunks
+  padded-last k p n after e then = by (last w k)
+    where
+      by : Last w → after ≡ put (paddingPlaces cs) (replicate (length (paddingPlaces cs)) 0) before
+      by (nothing z is) =
+          let none : n ≡ 0 = (let r = ap roundedUp z ∙ rounded-none in omega arith) in
+          let all : cs ≡ p .parts .past = (rw is at (p .parts .all)) ∙ append-nil (p .parts .past) in
+          then ∙ rw (none, all) (p .filled)
+      by (itself is) =
+          let made = padded-more cs (p .parts .past) w (run 0 0) [] n before out after ((rw is at (p .parts .all)) ∙ ap (λ (rs : List Run). p .parts .past ++ (w ∷ rs)) (sym (at-first []))) e (p .filled) then in
+          let all : cs ≡ made .parts .past = made .parts .all ∙ ap (λ (rs : List Run). made .parts .past ++ rs) (at-first []) ∙ append-nil (made .parts .past) in
+          rw all (made .filled)
+
+-- An empty piece changes nothing.
+pub placed-empty : (ps piece out : List ℕ) → length piece ≡ 0 → out ≡ put ps piece out
+placed-empty ps [] out e = sym (put-none ps out)
+placed-empty ps (b ∷ piece) out e = absurd (omega arith)
+
+-- Bytes of a piece, put in a walk over a read list.
+placed-none : (all : List ℕ) (count j m at : ℕ) (piece before out after : List ℕ) → m ≡ 0 → out ≡ put (drop count all) (take j piece) before → after ≡ stored out at (take (j + m - j) (drop j piece)) → after ≡ put (drop count all) (take (j + m) piece) before
+unfolding stored
+placed-none all count j m at piece before out after z now then =
+    let none : j + m - j ≡ 0 = omega arith in
+    let same : j + m ≡ j = omega arith in
+    then ∙ rw (none, same) now
+
+-- The last bytes.
+pub placed-rest : (all : List ℕ) (count j : ℕ) (r : Run) (piece before out after : List ℕ) → Seeks all (count + j) r → j ≤ length piece → length piece - j ≤ r .length →
+    out ≡ put (drop count all) (take j piece) before → after ≡ stored out (r .at) (drop j piece) → after ≡ put (drop count all) piece before
+placed-rest all count j r piece before out after s fits most now then =
+    let whole : j + (length piece - j) ≡ length piece = omega arith in
+    let part : take (j + (length piece - j) - j) (drop j piece) ≡ drop j piece = (let e : j + (length piece - j) - j ≡ length (drop j piece) = omega (arith, length-drop j piece) in rw e (take-length (drop j piece))) in
+    placed-more all count j (length piece - j) r piece before out after s (omega arith) most now (then ∙ ap (stored out (r .at)) (sym part))
+    ∙ ap (λ (n : ℕ). put (drop count all) (take n piece) before) whole ∙ rw (take-length piece)
+
+module _ (base : ℕ) (cs : List Run) (w : Run) (earlier : ℕ) (x : ReadSegment) (xs : List ReadSegment) (walk : Walk w (x ∷ xs)) (count j : ℕ) (s : GapSought base cs (count + j) earlier w (x ∷ xs)) (size : ℕ) (e : size ≡ roundedUp (endedLength w x)) (m : ℕ) (most : m ≤ x .position - (count + j + (earlier + size))) where
+  pub base-placed : (piece before out after : List ℕ) → j + m ≤ length piece → out ≡ put (drop count (basePlaces base cs)) (take j piece) before →
+      after ≡ stored out (count + j + (earlier + size)) (take (j + m - j) (drop j piece)) → after ≡ put (drop count (basePlaces base cs)) (take (j + m) piece) before
+  base-placed piece before out after fits now then = by (ltb (count + j + (earlier + size)) (x .position)) refl
+    where
+      by : (b : Bool) → ltb (count + j + (earlier + size)) (x .position) ≡ b → after ≡ put (drop count (basePlaces base cs)) (take (j + m) piece) before
+      by true t = placed-more _ count j m _ piece before out after (gap-here base cs (count + j) earlier w x xs walk s size e (ltb-true _ _ t)) fits most now then
+      by false t = let past = ltb-false (count + j + (earlier + size)) (x .position) t in placed-none _ count j m _ piece before out after (omega arith) now then
+
+  pub base-within : stands base 0 0 cs ≡ true → count + j ≤ base → count + j + (earlier + size) + m ≤ messageLength base cs
+  base-within stand low = by (ltb (count + j + (earlier + size)) (x .position)) refl
+    where
+      by : (b : Bool) → ltb (count + j + (earlier + size)) (x .position) ≡ b → count + j + (earlier + size) + m ≤ messageLength base cs
+      by true t =
+          let ends-in = seek-within (messageLength base cs) _ _ _ (gap-here base cs (count + j) earlier w x xs walk s size e (ltb-true _ _ t)) (within-base base cs stand) in
+          let here = ltb-true (count + j + (earlier + size)) (x .position) t in
+          omega arith
+      by false t =
+          let past = ltb-false (count + j + (earlier + size)) (x .position) t in
+          let low-enough = gap-within base cs (count + j) earlier w x xs walk s size e past low in
+          omega arith
+
+  pub base-next : m ≡ x .position - (count + j + (earlier + size)) → GapSought base cs (count + (j + m)) (earlier + size) (joinedRun w x) xs
+  base-next full =
+      let same : count + j + m ≡ count + (j + m) = omega arith in
+      rw same at (gap-next base cs (count + j + m) earlier w x xs walk (gap-advance base cs (count + j) earlier m w (x ∷ xs) s) size e (omega arith))
+
+module _ (cs : List Run) (w : Run) (x : ReadSegment) (xs : List ReadSegment) (walk : Walk w (x ∷ xs)) (count j left : ℕ) (s : ChunkSought cs (count + j) left w (x ∷ xs)) (m : ℕ) (most : m ≤ endedLength w x - left) where
+  pub chunk-placed : (piece before out after : List ℕ) → j + m ≤ length piece → out ≡ put (drop count (places cs)) (take j piece) before →
+      after ≡ stored out (w .at + min left (endedLength w x)) (take (j + m - j) (drop j piece)) → after ≡ put (drop count (places cs)) (take (j + m) piece) before
+  chunk-placed piece before out after fits now then = by (ltb left (endedLength w x)) refl
+    where
+      by : (b : Bool) → ltb left (endedLength w x) ≡ b → after ≡ put (drop count (places cs)) (take (j + m) piece) before
+      by true t =
+          let lt = ltb-true left (endedLength w x) t in
+          let from-left : min left (endedLength w x) ≡ left = omega arith in
+          placed-more _ count j m _ piece before out after (chunk-here cs (count + j) left w x xs walk s lt) fits most now (rw from-left at then)
+      by false t = let past = ltb-false left (endedLength w x) t in placed-none _ count j m _ piece before out after (omega arith) now then
+
+  pub chunk-room : (base : ℕ) → stands base 0 0 cs ≡ true → Parted cs w (x ∷ xs) → w .at + min left (endedLength w x) + m ≤ messageLength base cs
+  chunk-room base stand p =
+      let all = ended-within base cs w stand x xs walk p in
+      let up = rounded-most (endedLength w x) .0 in
+      omega arith
+
+  pub chunk-next-byte : m ≡ endedLength w x - left → count + (j + m) < totalLength cs → ChunkSought cs (count + (j + m)) (left + m - endedLength w x) (joinedRun w x) xs
+  chunk-next-byte full there =
+      let same : count + j + m ≡ count + (j + m) = omega arith in
+      rw same at (chunk-next cs (count + j + m) (left + m) w x xs walk (chunk-advance cs (count + j) left m w (x ∷ xs) (omega arith) s) (omega arith))
+
+-- No sum on the way is too large.
+pub left-fits : (left m far j size count total message room most : ℕ) → left ≤ count → m ≡ min far (size - j) → count + size ≤ total → total ≤ message → message ≤ room → room < most → left + m < most
+left-fits left m far j size count total message room most a b c d e f = omega arith
+
+pub whole-part : (m : ℕ) → m - 0 ≡ m
+whole-part m = omega arith
+
+-- A piece in two parts: the bytes of the base, and those of the chunks.
+module _ (base : ℕ) (cs : List Run) (stand : stands base 0 0 cs ≡ true) (count m : ℕ) (piece out : List ℕ) where
+  abbrev two-parts : ℕ → List ℕ
+  two-parts behind = put (drop behind (places cs)) (drop m piece) (put (drop (min count base) (basePlaces base cs)) (take m piece) out)
+
+  none-in-base : m ≡ 0 → (behind : ℕ) → put (drop behind (places cs)) piece out ≡ two-parts behind
+  none-in-base z behind = rw z (ap (put (drop behind (places cs)) piece) (sym (put-none (drop (min count base) (basePlaces base cs)) out)))
+
+  drop-base : drop count (basePlaces base cs ++ places cs) ≡ drop (min count base) (basePlaces base cs) ++ drop (count - base) (places cs)
+  drop-base = by (leb count base) refl
+    where
+      long : length (basePlaces base cs) ≡ base
+      long = length-base base cs stand
+
+      by : (b : Bool) → leb count base ≡ b → drop count (basePlaces base cs ++ places cs) ≡ drop (min count base) (basePlaces base cs) ++ drop (count - base) (places cs)
+      by true t =
+          let le = leb-true count base t in
+          let here : min count base ≡ count = omega arith in
+          let none : count - base ≡ 0 = omega arith in
+          rw (here, none) (drop-append-le count (basePlaces base cs) (places cs) (omega (arith, long)))
+      by false t =
+          let gt = leb-false count base t in
+          let all : min count base ≡ length (basePlaces base cs) = omega (arith, long) in
+          let rest : count - base ≡ count - length (basePlaces base cs) = omega (arith, long) in
+          rw (all, drop-length (basePlaces base cs), rest) (drop-behind (basePlaces base cs) (places cs) count (omega (arith, long)))
+
+  pub base-part : (based : Bool) → m ≡ min (cond based (base - count) 0) (length piece) → min count base + m ≤ base
+  base-part true e = omega arith
+  base-part false e = omega arith
+
+  pub chunk-part : (based : Bool) → m ≡ min (cond based (base - count) 0) (length piece) → count + length piece ≤ length (sourcePlaces based base cs) → cond based (count - base) count + (length piece - m) ≤ totalLength cs
+  chunk-part true e h = omega (arith, length-based base cs stand)
+  chunk-part false e h = omega (arith, length-places cs)
+
+  pub in-two : (based : Bool) → m ≡ min (cond based (base - count) 0) (length piece) → put (drop count (sourcePlaces based base cs)) piece out ≡ two-parts (cond based (count - base) count)
+  in-two false e = none-in-base (omega arith) count
+  in-two true e = by (leb (length piece) (base - count)) refl
+    where
+      front : length (drop (min count base) (basePlaces base cs)) ≡ base - count
+      front = omega (arith, length-drop (min count base) (basePlaces base cs), length-base base cs stand)
+
+      by : (b : Bool) → leb (length piece) (base - count) ≡ b → put (drop count (basePlaces base cs ++ places cs)) piece out ≡ two-parts (count - base)
+      by true t =
+          let le = leb-true (length piece) (base - count) t in
+          let whole : m ≡ length piece = omega arith in
+          rw (drop-base, whole, take-length piece, drop-length piece, put-none) (put-first _ _ piece out (omega (arith, front)))
+      by false t =
+          let gt = leb-false (length piece) (base - count) t in
+          let part : m ≡ base - count = omega arith in
+          let taken : length (take m piece) ≡ length (drop (min count base) (basePlaces base cs)) = omega (arith, length-take-le m piece (omega arith), front) in
+          rw drop-base
+          (ap (λ (v : List ℕ). put (drop (min count base) (basePlaces base cs) ++ drop (count - base) (places cs)) v out) (sym (take-append-drop m piece))
+          ∙ put-append _ (take m piece) (drop m piece) out
+          ∙ rw (taken, drop-at (drop (min count base) (basePlaces base cs)) (drop (count - base) (places cs)) _ refl, put-first (drop (min count base) (basePlaces base cs)) (drop (count - base) (places cs)) (take m piece) out (omega (arith, taken))))
 
 -- There are no more places than the message has bytes.
 total-rounded : (cs : List Run) → totalLength cs ≤ roundedTotal cs
@@ -266,24 +418,3 @@ total-rounded (c ∷ cs) = let up = rounded-most (c .length) .0 in omega (arith,
 pub source-most : (based : Bool) (base : ℕ) (cs : List Run) → stands base 0 0 cs ≡ true → length (sourcePlaces based base cs) ≤ messageLength base cs
 source-most true base cs e = omega (arith, length-based base cs e, total-rounded cs)
 source-most false base cs e = omega (arith, length-places cs, total-rounded cs)
-
--- A byte of the base.
-pub base-byte : (based : Bool) (base k : ℕ) → inBase based base k ≡ true → k < base
-base-byte true base k e = ltb-true k base e
-base-byte false base k e = absurd (let z : _≡_ {A = ℕ} 0 1 = cc in omega arith)
-
-pub seek-base-byte : (based : Bool) (base k : ℕ) (cs : List Run) (r : Run) → inBase based base k ≡ true → Seeks (basePlaces base cs) k r → Seeks (sourcePlaces based base cs) k r
-seek-base-byte true base k cs r e s = seek-front (basePlaces base cs) (places cs) k r s
-seek-base-byte false base k cs r e s = absurd (let z : _≡_ {A = ℕ} 0 1 = cc in omega arith)
-
--- A byte of the chunks.
-pub chunk-byte : (based : Bool) (base k : ℕ) (cs : List Run) → stands base 0 0 cs ≡ true → inBase based base k ≡ false → k < length (sourcePlaces based base cs) → behindBase based base k < totalLength cs
-chunk-byte true base k cs l e h = let behind = ltb-false k base e in omega (arith, length-based base cs l)
-chunk-byte false base k cs l e h = omega (arith, length-places cs)
-
-pub seek-chunk-byte : (based : Bool) (base k : ℕ) (cs : List Run) (r : Run) → stands base 0 0 cs ≡ true → inBase based base k ≡ false → Seeks (places cs) (behindBase based base k) r → Seeks (sourcePlaces based base cs) k r
-seek-chunk-byte true base k cs r l e s =
-    let long = length-base base cs l in
-    let behind = ltb-false k base e in
-    seek-behind (basePlaces base cs) (places cs) k r (omega arith) (rw long s)
-seek-chunk-byte false base k cs r l e s = s

@@ -1,22 +1,12 @@
 -- What is placed, and where. Only internal contracts cite these.
-use Prim.Native.Nat.{ℕ, _-_, _≤_}
+use Prim.Native.Nat.{ℕ, _≤_}
 use mathlib.Core.Path.{_≡_}
 use mathlib.Core.Bool.{Bool, true, false}
 use mathlib.Core.List.{List, _++_}
-use lib.Dec.{ltb}
 use Rattle.wire.specs.declared.ReadSegment.{ReadSegment}
 use Rattle.lists.specs.Lists.{positionsNumber}
 use Rattle.layout.specs.Layout.{otherChunks, stands, places, basePlaces}
 use Rattle.layout.specs.declared.Run.{Run}
-
--- Whether byte k is one of the base, where the base is placed before the chunks.
-abbrev pub inBase : Bool → ℕ → ℕ → Bool
-inBase true base k = ltb k base
-inBase false base k = false
-
-abbrev pub behindBase : Bool → ℕ → ℕ → ℕ
-behindBase true base k = k - base
-behindBase false base k = k
 
 -- The places of the base, if it is placed, and of the chunks.
 abbrev pub sourcePlaces : Bool → ℕ → List Run → List ℕ

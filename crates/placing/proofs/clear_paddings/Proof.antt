@@ -85,7 +85,7 @@ clear-at-requires c κs = let a = c .before .before .before .before .before .bef
     let padded = rw rest at (at .inv .3) in
     let e = c .before .before .before .ended .ensures in
     let pad = rw e at (c .padding .ensures .0) in
-    let within = ended-within (a .base) _ (at .w) _ _ (laid .stand) _ _ walk padded in
+    let within = ended-within (a .base) _ (at .w) (laid .stand) _ _ walk (padded .parts) in
     let up = rounded-most (endedLength (at .w) (getD (a .t2) (at .i) zeroReadSegment)) .0 in
     omega arith
 
@@ -129,7 +129,7 @@ loop-again c = let a = c .before .before .before .before .before .before .before
     let same = at .inv .2 in
     let padded = rw rest at (at .inv .3) in
     let e = c .before .before .before .before .before .before .before .ended .ensures in
-    let next = padded-next (a .base) _ (at .w) _ _ (laid .stand) _ _ walk padded _ _ (rw e at (c .before .before .before .before .padding .ensures .0)) (rw e at (c .before .before .before .clear-at .ensures)) in
+    let next = padded-next _ (at .w) _ _ _ _ walk padded _ _ (rw e at (c .before .before .before .before .padding .ensures .0)) (rw e at (c .before .before .before .clear-at .ensures)) in
     (search needs, along-next reads (at .i) 0 (at .w) _ rest along 0 _ (omega arith) (c .joined .ensures .0) (c .joined .ensures .1), ap length (next .filled) ∙ length-put _ _ _, rw (c .joined .ensures .0) next)
 
 add-clear-at-2 : tie.Need-add-clear-at-2 Inv-loop μ-loop
@@ -182,7 +182,7 @@ clear-at-requires-2 c κs = let a = c .before .before .before .before .before .b
     let low = along .low .at in
     let same = at .inv .2 in
     let pad = c .padding2 .ensures .0 in
-    let within = last-within (a .base) _ (at .w) _ _ (laid .stand) walk padded in
+    let within = last-within (a .base) _ (at .w) (laid .stand) walk (padded .parts) in
     let up = rounded-most (at .w .length) .0 in
     omega arith
 
@@ -204,7 +204,7 @@ returns c = let a = c .before .before .before .before .before .before .before .b
     let sum = along .low .sum in
     let low = along .low .at in
     let same = at .inv .2 in
-    padded-last (a .base) _ (at .w) _ _ (laid .stand) walk padded _ _ (c .before .before .before .padding2 .ensures .0) (c .before .before .clear-at2 .ensures)
+    padded-last _ (at .w) _ _ walk padded _ _ (c .before .before .before .padding2 .ensures .0) (c .before .before .clear-at2 .ensures)
 
 pub clear-paddings-spec : {M : Type 1} → statement M
 clear-paddings-spec =

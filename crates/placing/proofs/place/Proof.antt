@@ -1,89 +1,98 @@
 -- `placing::place` meets its contract.
-use Rattle.placing.proofs.Laws.{source-most, seek-within, within-source, part-length, placed-more}
-use Rattle.placing.specs.Sources.{sourcePlaces}
-use Rattle.layout.proofs.Putting.{length-put, put-none}
-use Rattle.layout.specs.Layout.{otherChunks, messageLength}
-use Rattle.layout.specs.Places.{put}
-use lib.Seq.{take-length}
-use lib.ListN.{length, take, drop}
-use denote.Ref.{now}
-use borrow.Author.Needs.{needs}
+use Rattle.placing.proofs.Laws.{whole-part}
+use lib.Seq.{length-take-le}
+use mathlib.Core.Path.{_≡_, sym, ap, _∙_}
+use Prim.Native.Nat.{_-_, min}
 use native.Mathlib.Omega.{arith}
-use Prim.Native.Nat.{_≤_, _-_}
-use mathlib.Core.Path.{_≡_, refl, sym, ap, _∙_}
+use mathlib.Core.Bool.{cond}
+use denote.Ref.{now}
+use lib.ListN.{length, take, length-drop}
+use Rattle.wire.proofs.Laws.{part-from}
+use Rattle.layout.specs.Layout.{otherChunks}
+use Rattle.layout.proofs.Putting.{length-put}
+use Rattle.placing.proofs.Laws.{base-part, chunk-part, in-two}
+use borrow.Author.Needs.{needs}
 use Rattle.placing.proofs.place.Statement.{statement}
 use Rattle.placing.proofs.place.Tie as tie
 
-abbrev Inv-loop : tie.InvT-loop
-Inv-loop out₀ piece segments n base based count j₀ out j = (out ≡ put (drop count (sourcePlaces based base (otherChunks (take n segments)))) (take j piece) out₀) × (j ≤ length piece) × (length out ≡ length out₀)
+to-come-requires : tie.Need-to-come-requires
+to-come-requires c κs = search needs
 
-abbrev μ-loop : tie.MeasureT-loop
-μ-loop out₀ piece segments n base based count j₀ out j = length piece - j
+least-requires : tie.Need-least-requires
+least-requires c κs = search needs
 
-loop-holds : tie.Need-loop-holds Inv-loop μ-loop
-loop-holds c = (sym (put-none _ _), omega arith, refl)
+sub-place-base : tie.Need-sub-place-base
+sub-place-base c = search needs
 
-add-seek : tie.Need-add-seek Inv-loop μ-loop
-add-seek c =
-    let a = c .before .before .before .before .args in
-    let l = c .before .before .before .before .pre .1 in
-    let few = source-most (a .based) (a .base) (otherChunks (take (a .n) (a .segments))) (l .stand) in
-    let room = c .before .before .before .before .pre .2 in
-    omega arith
+part-place-base-start : tie.Need-part-place-base-start
+part-place-base-start c = search needs
 
-seek-requires : tie.Need-seek-requires Inv-loop μ-loop
-seek-requires c κs = (c .before .before .before .before .pre .0, c .before .before .before .before .pre .1, omega arith)
+part-place-base-end : tie.Need-part-place-base-end
+part-place-base-end c = search needs
 
-sub-least : tie.Need-sub-least Inv-loop μ-loop
-sub-least c = search needs
+least-requires-2 : tie.Need-least-requires-2
+least-requires-2 c κs = search needs
 
-least-requires : tie.Need-least-requires Inv-loop μ-loop
-least-requires c κs = (c .seek .ensures .some, omega arith)
+place-base-requires : tie.Need-place-base-requires
+place-base-requires c κs = let a = c .before .before .before .before .before .before .before .args in
+    let pre = c .before .before .before .before .before .before .before .pre in
+    let cs = otherChunks (take (a .n) (a .segments)) in
+    let stand = pre .1 .stand in
+    let m : c .before .before .before .least .result ≡ min (cond (a .based) (a .base - a .count) 0) (length (now (a .piece))) = rw (← (c .before .before .before .before .to-come .ensures)) (c .before .before .before .least .ensures) in
+    let most = base-part (a .base) cs stand (a .count) (c .before .before .before .least .result) (now (a .piece)) (now (a .out)) (a .based) m in
+    let front = length-take-le (c .before .before .before .least .result) (now (a .piece)) (omega arith) in
+    (pre .0, pre .1, pre .2, rw (c .least2 .ensures, whole-part, front) most)
 
-add-e : tie.Need-add-e Inv-loop μ-loop
-add-e c = search needs
+sub-place-chunks : tie.Need-sub-place-chunks
+sub-place-chunks c = search needs
 
-sub-copy-at : tie.Need-sub-copy-at Inv-loop μ-loop
-sub-copy-at c = search needs
+part-place-chunks-start : tie.Need-part-place-chunks-start
+part-place-chunks-start c = search needs
 
-part-copy-at-start : tie.Need-part-copy-at-start Inv-loop μ-loop
-part-copy-at-start c = search needs
+part-place-chunks-end : tie.Need-part-place-chunks-end
+part-place-chunks-end c = search needs
 
-part-copy-at-end : tie.Need-part-copy-at-end Inv-loop μ-loop
-part-copy-at-end c = search needs
+behind-base-requires : tie.Need-behind-base-requires
+behind-base-requires c κs = search needs
 
-copy-at-requires : tie.Need-copy-at-requires Inv-loop μ-loop
-copy-at-requires c κs = let a = c .before .before .before .before .before .before .before .before .args in let within = seek-within (messageLength (a .base) (otherChunks (take (a .n) (a .segments)))) _ _ _ (c .before .before .before .seek .ensures) (within-source (a .based) (a .base) (otherChunks (take (a .n) (a .segments))) (c .before .before .before .before .before .before .before .before .pre .1 .stand)) in let part = part-length (c .before .before .before .before .before .loop .j) (c .before .before .least .result) (now (a .piece)) (omega arith) in omega (arith, within, part, c .before .before .least .ensures .0)
+place-chunks-requires : tie.Need-place-chunks-requires
+place-chunks-requires c κs = let a = c .before .before .before .before .before .before .before .before .before .before .before .before .before .args in
+    let pre = c .before .before .before .before .before .before .before .before .before .before .before .before .before .pre in
+    let cs = otherChunks (take (a .n) (a .segments)) in
+    let stand = pre .1 .stand in
+    let m : c .before .before .before .before .before .before .before .before .before .least .result ≡ min (cond (a .based) (a .base - a .count) 0) (length (now (a .piece))) = rw (← (c .before .before .before .before .before .before .before .before .before .before .to-come .ensures)) (c .before .before .before .before .before .before .before .before .before .least .ensures) in
+    let kept = ap length (c .before .before .before .before .before .place-base .ensures) ∙ length-put _ _ _ in
+    let room = pre .2 in
+    (pre .0, pre .1, rw kept room, rw (c .behind-base .ensures, part-from (c .before .before .before .before .before .before .before .before .before .least .result) (now (a .piece)), length-drop (c .before .before .before .before .before .before .before .before .before .least .result) (now (a .piece))) (chunk-part (a .base) cs stand (a .count) (c .before .before .before .before .before .before .before .before .before .least .result) (now (a .piece)) (now (a .out)) (a .based) m (pre .3)))
 
-loop-less : tie.Need-loop-less Inv-loop μ-loop
-loop-less c = omega (arith, c .before .before .before .before .before .least .ensures .2)
-
-loop-again : tie.Need-loop-again Inv-loop μ-loop
-loop-again c = let a = c .before .before .before .before .before .before .before .before .before .before .before .args in let after = placed-more _ (a .count) (c .before .before .before .before .before .before .before .before .loop .j) (c .before .before .before .before .before .least .result) _ (now (a .piece)) (now (a .out)) (c .before .before .before .before .before .before .before .before .loop .out) _ (c .before .before .before .before .before .before .seek .ensures) (omega arith) (c .before .before .before .before .before .least .ensures .0) (c .before .before .before .before .before .before .before .before .loop .inv .0) (c .before .before .copy-at .ensures) in (after, omega arith, ap length after ∙ length-put _ _ _)
-
-same-length : tie.Need-same-length Inv-loop μ-loop
+same-length : tie.Need-same-length
 same-length c = search needs
 
-returns : tie.Need-returns Inv-loop μ-loop
-returns c = let a = c .before .before .before .before .args in let e : c .before .loop .j ≡ length (now (a .piece)) = omega arith in rw (e, take-length) at (c .before .loop .inv .0)
+returns : tie.Need-returns
+returns c = let a = c .before .before .before .before .before .before .before .before .before .before .before .before .before .before .before .before .args in
+    let pre = c .before .before .before .before .before .before .before .before .before .before .before .before .before .before .before .before .pre in
+    let cs = otherChunks (take (a .n) (a .segments)) in
+    let stand = pre .1 .stand in
+    let m : c .before .before .before .before .before .before .before .before .before .before .before .before .least .result ≡ min (cond (a .based) (a .base - a .count) 0) (length (now (a .piece))) = rw (← (c .before .before .before .before .before .before .before .before .before .before .before .before .before .to-come .ensures)) (c .before .before .before .before .before .before .before .before .before .before .before .before .least .ensures) in
+    c .before .before .place-chunks .ensures
+    ∙ rw (c .before .before .before .behind-base .ensures, part-from (c .before .before .before .before .before .before .before .before .before .before .before .before .least .result) (now (a .piece)), c .before .before .before .before .before .before .before .before .place-base .ensures, c .before .before .before .before .before .before .before .before .before .least2 .ensures, whole-part)
+    (sym (in-two (a .base) cs stand (a .count) (c .before .before .before .before .before .before .before .before .before .before .before .before .least .result) (now (a .piece)) (now (a .out)) (a .based) m))
 
 pub place-spec : {M : Type 1} → statement M
 place-spec =
     tie.close
     (tie.spec
-    Inv-loop
-    μ-loop
-    loop-holds
-    add-seek
-    seek-requires
-    sub-least
+    to-come-requires
     least-requires
-    add-e
-    sub-copy-at
-    part-copy-at-start
-    part-copy-at-end
-    copy-at-requires
-    loop-less
-    loop-again
+    sub-place-base
+    part-place-base-start
+    part-place-base-end
+    least-requires-2
+    place-base-requires
+    sub-place-chunks
+    part-place-chunks-start
+    part-place-chunks-end
+    behind-base-requires
+    place-chunks-requires
     same-length
     returns)
