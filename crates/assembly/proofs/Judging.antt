@@ -11,11 +11,12 @@ use Rattle.wire.specs.declared.ReadSegment.{ReadSegment}
 use Rattle.lists.specs.Lists.{positionsNumber}
 use Rattle.header.specs.declared.Kind.{Kind}
 use Rattle.header.specs.declared.Kind.the-variants.{Msg, Nomsg, Error}
-use Rattle.layout.specs.Layout.{kindFits, anyAtZero, zeroLength, otherChunks, baseLength, stands, totalLength, placeNumber, pulledPlaces}
+use Rattle.layout.specs.Layout.{messageLength, kindFits, anyAtZero, zeroLength, otherChunks, baseLength, stands, totalLength, placeNumber, pulledPlaces}
 use Rattle.layout.specs.Walks.{sumsOf, measuredOf}
 use Rattle.layout.specs.declared.Run.{Run}
 use Rattle.layout.specs.declared.Sums.{Sums}
 use Rattle.layout.specs.declared.Measured.{Measured}
+use Rattle.layout.specs.declared.Measured.the-variants.{Holds, Refused}
 use Rattle.layout.proofs.Summing.{none-at-zero, read-total}
 use Rattle.layout.proofs.Putting.{length-places}
 use Rattle.placing.specs.Sources.{sourcePlaces}
@@ -24,7 +25,7 @@ use Rattle.assembly.specs.Assembly.{readsOf, chunksOf, pulledOf, canAris
 use Rattle.assembly.specs.Judged.{judgedBase, isNomsg, Judges}
 use Rattle.assembly.specs.declared.State.{State}
 use Rattle.assembly.specs.declared.Judged.{Judged}
-use Rattle.assembly.proofs.Starting.{Passed, place-passed, base-same, measured-number, measured-message}
+use Rattle.assembly.proofs.Starting.{Passed, place-passed, base-same, measured-holds, measured-refused}
 
 abbrev pub unfitting : Judged
 unfitting = record { message = 0; pulled = 0; fits = false }
@@ -66,16 +67,21 @@ module _ (s : State) (room : ℕ) where
   other-buffer h = simp (ne-eqb _ _ h) (and-false (canArise s))
 
   module _ (few : s .reads .count ≤ 16) (rise : positionsNumber 0 (readsOf s) 0 ≡ 0) (same : s .buffer ≡ room) (sums : Sums) (summed : sums ≡ sumsOf (readsOf s)) (m : Measured) (measured : m ≡ measuredOf (s .kind) (s .base) (sums .«any_zero») (chunksOf s) room) where
-    number-of : m .number ≡ placeNumber (s .kind) (anyAtZero (readsOf s)) (s .base) (chunksOf s) (s .buffer)
-    number-of = measured-number (s .kind) (s .base) (sums .«any_zero») (chunksOf s) room m measured ∙ rw (summed, same)
+    same-number : placeNumber (s .kind) (sums .«any_zero») (s .base) (chunksOf s) room ≡ placeNumber (s .kind) (anyAtZero (readsOf s)) (s .base) (chunksOf s) (s .buffer)
+    same-number = rw (summed, same)
 
-    pub misplaced : (m .number ≡ 0 → ⊥) → fitsState s room ≡ false
+    pub misplaced : (n : ℕ) → m ≡ Refused n → fitsState s room ≡ false
     unfolding canArise
-    misplaced h = simp (le-leb _ _ few, eq-eqb _ _ rise, ne-eqb _ 0 (λ e. h (number-of ∙ e)))
+    misplaced n e =
+        let told = measured-refused (s .kind) (s .base) (sums .«any_zero») (chunksOf s) room m measured n e in
+        simp (le-leb _ _ few, eq-eqb _ _ rise, ne-eqb _ 0 (λ z. told .1 (told .0 ∙ same-number ∙ z)))
 
-    module _ (placed : m .number ≡ 0) where
+    module _ (message : ℕ) (holds : m ≡ Holds message) where
+      told : (placeNumber (s .kind) (sums .«any_zero») (s .base) (chunksOf s) room ≡ 0) × (message ≡ messageLength (s .base) (chunksOf s))
+      told = measured-holds (s .kind) (s .base) (sums .«any_zero») (chunksOf s) room m measured message holds
+
       zero-number : placeNumber (s .kind) (anyAtZero (readsOf s)) (s .base) (chunksOf s) (s .buffer) ≡ 0
-      zero-number = sym number-of ∙ placed
+      zero-number = sym same-number ∙ told .0
 
       passed : Passed (s .kind) (anyAtZero (readsOf s)) (s .base) (chunksOf s) (s .buffer)
       passed = place-passed (s .kind) (anyAtZero (readsOf s)) (s .base) (chunksOf s) (s .buffer) zero-number
@@ -100,10 +106,10 @@ module _ (s : State) (room : ℕ) where
         unfolding canArise
         fit h = simp (le-leb _ _ few, eq-eqb _ _ rise, zero-number, eq-eqb _ _ (sym base-of ∙ based), le-leb _ _ h, eq-eqb _ _ same)
 
-        pub fit-judges : (r : Judged) → s .taken ≤ sums .«all_length» → r ≡ record { message = m .message; pulled = sums .«all_length»; fits = true } → Judges s room r
+        pub fit-judges : (r : Judged) → s .taken ≤ sums .«all_length» → r ≡ record { message = message; pulled = sums .«all_length»; fits = true } → Judges s room r
         fit-judges r h e =
             let p = passed in
-            let holds = p .holds in
+            let room-for = p .holds in
             let long = p .long in
             rw e
             (record {
@@ -111,7 +117,7 @@ module _ (s : State) (room : ℕ) where
               known = λ q. record {
                 count = few;
                 laid = record { rise = rise; stand = p .stand; small = omega arith };
-                message = measured-message (s .kind) (s .base) (sums .«any_zero») (chunksOf s) room m measured placed;
+                message = told .1;
                 holds = omega arith;
                 places = pulled-places (s .kind) (anyAtZero (readsOf s)) (s .base) (chunksOf s) (p .fits);
                 pulled = pulled-of;

@@ -24,10 +24,11 @@ use Rattle.header.proofs.Lies.{Found, bounds, stored-padded, payload-lies}
 use Rattle.header.proofs.Ends.{nomsg-ends}
 use Rattle.layout.specs.Places.{put}
 use Rattle.layout.specs.Layout.{kindFits, zeroLength, otherChunks, baseLength, stands, messageLength, placeNumber, places, basePlaces, paddingPlaces}
-use Rattle.layout.specs.Walks.{sumsOf, measuredOf}
+use Rattle.layout.specs.Walks.{sumsOf, measuredOf, measuredNumber}
 use Rattle.layout.specs.declared.Run.{Run}
 use Rattle.layout.specs.declared.Sums.{Sums}
 use Rattle.layout.specs.declared.Measured.{Measured}
+use Rattle.layout.specs.declared.Measured.the-variants.{Holds, Refused}
 use Rattle.layout.proofs.Putting.{put-first}
 use Rattle.placing.specs.Sources.{Laid, sourcePlaces}
 use Rattle.placing.proofs.Laws.{length-base}
@@ -36,28 +37,30 @@ use Rattle.assembly.specs.declared.State.{State}
 use Rattle.assembly.specs.declared.StartAnswer.{StartAnswer}
 use Rattle.assembly.specs.Judged.{judgedBase}
 
-zero-or : (message n : ℕ) (b : Bool) → eqb n 0 ≡ b → cond {A = Measured} b (record { number = 0; message = message }) (record { number = n; message = 0 }) .number ≡ n
-zero-or message n true e = sym (eqb-true n 0 e)
-zero-or message n false e = refl
+-- What measuring says of the number, with either answer.
+module _ (kind : Kind) (base : ℕ) (atZero : Bool) (cs : List Run) (room : ℕ) (m : Measured) (measured : m ≡ measuredOf kind base atZero cs room) where
+  abbrev number : ℕ
+  number = placeNumber kind atZero base cs room
 
--- The number that measuring gives.
-pub measured-number : (kind : Kind) (base : ℕ) (atZero : Bool) (cs : List Run) (room : ℕ) (m : Measured) → m ≡ measuredOf kind base atZero cs room → m .number ≡ placeNumber kind atZero base cs room
-unfolding measuredOf
-measured-number kind base atZero cs room m e =
-    let n = placeNumber kind atZero base cs room in
-    ap (λ (x : Measured). x .number) e ∙ zero-or (messageLength base cs) n (eqb n 0) refl
+  pub measured-holds : (message : ℕ) → m ≡ Holds message → (number ≡ 0) × (message ≡ messageLength base cs)
+  unfolding measuredOf
+  measured-holds message e = by (eqb number 0) refl (sym e ∙ measured)
+    where
+      lengthIn : Measured → ℕ
+      lengthIn (Holds n) = n
+      lengthIn (Refused n) = 0
 
-message-or : (message n : ℕ) (b : Bool) → eqb n 0 ≡ b → cond {A = Measured} b (record { number = 0; message = message }) (record { number = n; message = 0 }) .number ≡ 0 →
-    cond {A = Measured} b (record { number = 0; message = message }) (record { number = n; message = 0 }) .message ≡ message
-message-or message n true e z = refl
-message-or message n false e z = absurd (eqb-false n 0 e z)
+      by : (b : Bool) → eqb number 0 ≡ b → Holds message ≡ cond b (Holds (messageLength base cs)) (Refused number) → (number ≡ 0) × (message ≡ messageLength base cs)
+      by true z q = (eqb-true number 0 z, ap lengthIn q)
+      by false z q = absurd (let n : _≡_ {A = ℕ} 0 1 = cc in omega arith)
 
--- With the number 0 it gives the length of the message.
-pub measured-message : (kind : Kind) (base : ℕ) (atZero : Bool) (cs : List Run) (room : ℕ) (m : Measured) → m ≡ measuredOf kind base atZero cs room → m .number ≡ 0 → m .message ≡ messageLength base cs
-unfolding measuredOf
-measured-message kind base atZero cs room m e z =
-    let n = placeNumber kind atZero base cs room in
-    ap (λ (x : Measured). x .message) e ∙ message-or (messageLength base cs) n (eqb n 0) refl (sym (ap (λ (x : Measured). x .number) e) ∙ z)
+  pub measured-refused : (n : ℕ) → m ≡ Refused n → (n ≡ number) × (n ≡ 0 → ⊥)
+  unfolding measuredOf
+  measured-refused n e = by (eqb number 0) refl (sym e ∙ measured)
+    where
+      by : (b : Bool) → eqb number 0 ≡ b → Refused n ≡ cond b (Holds (messageLength base cs)) (Refused number) → (n ≡ number) × (n ≡ 0 → ⊥)
+      by true z q = absurd (let k : _≡_ {A = ℕ} 0 1 = cc in omega arith)
+      by false z q = let same = ap measuredNumber q in (same, λ w. eqb-false number 0 z (sym same ∙ w))
 
 -- What a number 0 says of the chunks.
 pub record Passed (kind : Kind) (atZero : Bool) (base : ℕ) (cs : List Run) (room : ℕ) : Type 0 where
@@ -130,26 +133,27 @@ module _ (s : List ℕ) (shape : Shape) (f : Found s shape) (segs : List ReadSeg
         ∙ ap (λ (n : ℕ). judgedBase (content .kind) n (sums .«zero_length»)) inline-length
         ∙ base-same (content .kind) (length (f .behind)) (sums .«zero_length») (content .reads) (ap (λ (x : Sums). x .«zero_length») sums-are)
 
-    number-of : m .number ≡ placeNumber (shape .kind) (sums .«any_zero») base chunks room
-    number-of = measured-number (shape .kind) base (sums .«any_zero») chunks room m measured
-
-    number-is : m .number ≡ startNumber (readFrame s) room
+    number-is : placeNumber (shape .kind) (sums .«any_zero») base chunks room ≡ startNumber (readFrame s) room
     unfolding startNumber
     number-is =
-        number-of
-        ∙ (λ i. placeNumber (kind-is i) (sums-are i .«any_zero») (base-is i) (otherChunks (reads-are i)) room)
+        (λ i. placeNumber (kind-is i) (sums-are i .«any_zero») (base-is i) (otherChunks (reads-are i)) room)
         ∙ ap (λ (p : Parsed Content). startNumber p room) (sym (f .read))
 
-    pub not-started-is : (m .number ≡ 0 → ⊥) → (out : List ℕ) → length out ≡ room →
-        (record { state = noState; number = m .number } ≡ startAnswer (readFrame s) room) × (out ≡ startInto (readFrame s) out)
+    pub not-started-is : (n : ℕ) → m ≡ Refused n → (out : List ℕ) → length out ≡ room → (record { state = noState; number = n } ≡ startAnswer (readFrame s) room) × (out ≡ startInto (readFrame s) out)
     unfolding startAnswer startInto
-    not-started-is some out l = simp (l, ← number-is, ne-eqb (m .number) 0 some) (refl, refl)
+    not-started-is n e out l =
+        let told = measured-refused (shape .kind) base (sums .«any_zero») chunks room m measured n e in
+        let same : n ≡ startNumber (readFrame s) room = told .0 ∙ number-is in
+        simp (l, ← same, ne-eqb n 0 (told .1)) (refl, refl)
 
-    module _ (passes : m .number ≡ 0) where
+    module _ (message : ℕ) (holds : m ≡ Holds message) where
+      passes : placeNumber (shape .kind) (sums .«any_zero») base chunks room ≡ 0
+      passes = measured-holds (shape .kind) base (sums .«any_zero») chunks room m measured message holds .0
+
       -- What holds where a start is accepted.
       pub start-laid : Laid base (take (shape .reads) segs) × (messageLength base chunks ≤ room) × (length s ≤ shape .end + base)
       start-laid =
-          let p = place-passed (shape .kind) (sums .«any_zero») base chunks room (sym number-of ∙ passes) in
+          let p = place-passed (shape .kind) (sums .«any_zero») base chunks room passes in
           let within = inline-within (content .kind) (sums .«any_zero») (f .behind) (content .reads) (subst (λ (x : Kind). kindFits x (sums .«any_zero») ≡ true) kind-is (p .fits)) (nomsg-ends s content (f .behind) (f .read)) in
           let long = p .long in
           let same = base-is in

@@ -2,6 +2,7 @@
 // take_piece, ask, message.
 use header::FrameWalk;
 use header::Kind;
+use layout::Measured;
 use lists::ReadList;
 use wire::ReadSegment;
 use wire::Segment;
@@ -122,9 +123,9 @@ pub fn start(frame: &[u8], out: &mut [u8]) -> StartAnswer
     let sums = layout::sums_of(segments, n);
     let base = base_length(kind, frame.len() - end, sums.zero_length);
     let measured = layout::measure(kind, base, sums.any_zero, segments, n, room);
-    if measured.number != 0 {
-        return not_started(measured.number);
-    }
+    let Measured::Holds(_) = measured else {
+        return not_started(layout::measure_refusal(measured));
+    };
     lay(frame, end, segments, n, base, out);
     StartAnswer {
         state: State {
@@ -182,9 +183,9 @@ fn judge(s: State, room: usize) -> Judged
     let base = s.base;
     let sums = layout::sums_of(segments, n);
     let measured = layout::measure(kind, base, sums.any_zero, segments, n, room);
-    if measured.number != 0 {
+    let Measured::Holds(message) = measured else {
         return unfit();
-    }
+    };
     if base_length(kind, base, sums.zero_length) != base {
         return unfit();
     }
@@ -192,7 +193,7 @@ fn judge(s: State, room: usize) -> Judged
         return unfit();
     }
     Judged {
-        message: measured.message,
+        message,
         pulled: sums.all_length,
         fits: true,
     }

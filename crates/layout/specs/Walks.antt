@@ -14,6 +14,7 @@ use Rattle.layout.specs.declared.Sums.{Sums}
 use Rattle.layout.specs.declared.Standing.{Standing}
 use Rattle.layout.specs.declared.Standing.the-variants.{Stands, Overlaps}
 use Rattle.layout.specs.declared.Measured.{Measured}
+use Rattle.layout.specs.declared.Measured.the-variants.{Holds, Refused}
 
 -- The bytes of all segments.
 unfoldable pub readLength : List ReadSegment → ℕ
@@ -58,11 +59,13 @@ pub record Near (x : ReadSegment) : Type 0 where
 abbrev pub standingOf : ℕ → List Run → Standing
 standingOf base cs = cond (stands base 0 0 cs) (Stands (roundedTotal cs)) Overlaps
 
--- The number, and with 0 the length of the message.
+-- The length of the message, or the number of the check that fails.
 unfoldable pub measuredOf : Kind → ℕ → Bool → List Run → ℕ → Measured
-measuredOf kind base atZero cs room =
-    cond (eqb (placeNumber kind atZero base cs room) 0) (record { number = 0; message = messageLength base cs })
-    (record { number = placeNumber kind atZero base cs room; message = 0 })
+measuredOf kind base atZero cs room = cond (eqb (placeNumber kind atZero base cs room) 0) (Holds (messageLength base cs)) (Refused (placeNumber kind atZero base cs room))
+
+abbrev pub measuredNumber : Measured → ℕ
+measuredNumber (Holds message) = 0
+measuredNumber (Refused number) = number
 
 -- Behind the first k places come those of a run that is not empty.
 pub record Seeks (all : List ℕ) (k : ℕ) (r : Run) : Type 0 where

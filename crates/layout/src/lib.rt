@@ -8,7 +8,7 @@ ghost use Prim.Native.Nat.{_+_, _-_, _≤_, _<_};
 ghost use lib.ListN.{take};
 ghost use Rattle.lists.specs.Lists.{positionsNumber};
 ghost use Rattle.layout.specs.Layout.{otherChunks, roundedUp, kindFits};
-ghost use Rattle.layout.specs.Walks.{sumsWith, sumsOf, endedLength, joinedRun, Near, standingOf, measuredOf};
+ghost use Rattle.layout.specs.Walks.{sumsWith, sumsOf, endedLength, joinedRun, Near, standingOf, measuredOf, measuredNumber};
 
 // "kind and lists do not fit"
 pub const KIND_AND_LISTS: u32 = 12;
@@ -44,10 +44,10 @@ pub enum Standing {
     Overlaps,
 }
 
-// The number of a start, and with 0 the length of the message.
-pub struct Measured {
-    pub number: u32,
-    pub message: usize,
+// The length of a message that passes the checks of a start, or the number of the one that it does not pass.
+pub enum Measured {
+    Holds(usize),
+    Refused(u32),
 }
 
 pub fn wide(x: u32) -> usize
@@ -178,10 +178,14 @@ fn kind_fits(kind: Kind, any_zero: bool) -> bool
     }
 }
 
-fn refused(number: u32) -> Measured
-    ensures { λ r. ⌜ r ≡ record { number = number; message = 0 } ⌝ }
+// The number of a check that was not passed; 0 if all were.
+pub fn measure_refusal(m: Measured) -> u32
+    ensures { λ r. ⌜ r ≡ measuredNumber m ⌝ }
 {
-    Measured { number, message: 0 }
+    match m {
+        Measured::Holds(_) => 0,
+        Measured::Refused(number) => number,
+    }
 }
 
 // The checks of a start behind those of the reader, for a base of so many bytes and a buffer of `room`.
@@ -197,25 +201,25 @@ pub fn measure(
     ensures { λ r. ⌜ r ≡ measuredOf kind base «any_zero» (otherChunks (take n segments)) room ⌝ }
 {
     if !kind_fits(kind, any_zero) {
-        return refused(KIND_AND_LISTS);
+        return Measured::Refused(KIND_AND_LISTS);
     }
     if base % UNIT_BYTES != 0 {
-        return refused(BASE_UNALIGNED);
+        return Measured::Refused(BASE_UNALIGNED);
     }
     let stood = chunks_stand(segments, n, base);
     let Standing::Stands(size) = stood else {
-        return refused(CHUNK_OVERLAPS);
+        return Measured::Refused(CHUNK_OVERLAPS);
     };
     // The base may be any number, and the chunks very long; the sum must not wrap.
     if LONGEST_MESSAGE < base {
-        return refused(MESSAGE_LONG);
+        return Measured::Refused(MESSAGE_LONG);
     }
     if LONGEST_MESSAGE - base < size {
-        return refused(MESSAGE_LONG);
+        return Measured::Refused(MESSAGE_LONG);
     }
     let message = base + size;
     if room < message {
-        return refused(wire::BUFFER_SHORT);
+        return Measured::Refused(wire::BUFFER_SHORT);
     }
-    Measured { number: 0, message }
+    Measured::Holds(message)
 }

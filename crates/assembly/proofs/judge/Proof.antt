@@ -41,6 +41,12 @@ sums-of-requires c κs = search needs
 measure-requires : tie.Need-measure-requires
 measure-requires c κs = search needs
 
+enum-known-measured : tie.Need-enum-known-measured
+enum-known-measured c = search needs
+
+enum-told : tie.Need-enum-told
+enum-told c = search needs
+
 unfit-requires-4 : tie.Need-unfit-requires-4
 unfit-requires-4 c κs = search needs
 
@@ -53,7 +59,8 @@ returns-4 c =
     let same = c .before .before .before .before .before .if3 .left in
     let sums = c .before .before .before .before .sums-of in
     let measured = c .before .before .before .measure in
-    unfit-judges _ _ _ (c .unfit4 .ensures) (misplaced s room few rise same (sums .result) (sums .ensures) (measured .result) (measured .ensures) (c .before .if4 .taken))
+    let told = c .before .enum-told .given in
+    unfit-judges _ _ _ (c .unfit4 .ensures) (misplaced s room few rise same (sums .result) (sums .ensures) (measured .result) (measured .ensures) _ (told .1))
 
 base-length-requires : tie.Need-base-length-requires
 base-length-requires c κs = search needs
@@ -63,21 +70,34 @@ unfit-requires-5 c κs = search needs
 
 returns-5 : tie.Need-returns-5
 returns-5 c =
-    let s = c .before .before .before .before .before .before .before .before .before .before .before .before .before .before .before .before .args .s in
-    let room = c .before .before .before .before .before .before .before .before .before .before .before .before .before .before .before .before .args .room in
-    let few = c .before .before .before .before .before .before .before .before .before .before .before .before .if1 .left in
-    let rise = sym (c .before .before .before .before .before .before .before .before .before .before .positions-number .ensures) ∙ c .before .before .before .before .before .before .before .before .before .if2 .left in
-    let same = c .before .before .before .before .before .before .before .if3 .left in
-    let sums = c .before .before .before .before .before .before .sums-of in
-    let measured = c .before .before .before .before .before .measure in
-    let placed = c .before .before .before .if4 .left in
-    unfit-judges _ _ _ (c .unfit5 .ensures) (other-base s room few rise same (sums .result) (sums .ensures) (measured .result) (measured .ensures) placed (λ e. c .before .if5 .taken (c .before .before .base-length .ensures ∙ e)))
+    let s = c .before .before .before .before .before .before .before .before .before .before .before .before .before .before .before .before .before .args .s in
+    let room = c .before .before .before .before .before .before .before .before .before .before .before .before .before .before .before .before .before .args .room in
+    let few = c .before .before .before .before .before .before .before .before .before .before .before .before .before .if1 .left in
+    let rise = sym (c .before .before .before .before .before .before .before .before .before .before .before .positions-number .ensures) ∙ c .before .before .before .before .before .before .before .before .before .before .if2 .left in
+    let same = c .before .before .before .before .before .before .before .before .if3 .left in
+    let sums = c .before .before .before .before .before .before .before .sums-of in
+    let measured = c .before .before .before .before .before .before .measure in
+    let holds = c .before .before .before .before .measured .given in
+    unfit-judges _ _ _ (c .unfit5 .ensures) (other-base s room few rise same (sums .result) (sums .ensures) (measured .result) (measured .ensures) _ (holds .1) (λ e. c .before .if4 .taken (c .before .before .base-length .ensures ∙ e)))
 
 unfit-requires-6 : tie.Need-unfit-requires-6
 unfit-requires-6 c κs = search needs
 
 returns-6 : tie.Need-returns-6
 returns-6 c =
+    let s = c .before .before .before .before .before .before .before .before .before .before .before .before .before .before .before .before .before .before .before .before .args .s in
+    let room = c .before .before .before .before .before .before .before .before .before .before .before .before .before .before .before .before .before .before .before .before .args .room in
+    let few = c .before .before .before .before .before .before .before .before .before .before .before .before .before .before .before .before .if1 .left in
+    let rise = sym (c .before .before .before .before .before .before .before .before .before .before .before .before .before .before .positions-number .ensures) ∙ c .before .before .before .before .before .before .before .before .before .before .before .before .before .if2 .left in
+    let same = c .before .before .before .before .before .before .before .before .before .before .before .if3 .left in
+    let sums = c .before .before .before .before .before .before .before .before .before .before .sums-of in
+    let measured = c .before .before .before .before .before .before .before .before .before .measure in
+    let holds = c .before .before .before .before .before .before .before .measured .given in
+    let based = sym (c .before .before .before .before .before .base-length .ensures) ∙ c .before .before .before .before .if4 .left in
+    unfit-judges _ _ _ (c .unfit6 .ensures) (over-taken s room few rise same (sums .result) (sums .ensures) (measured .result) (measured .ensures) _ (holds .1) based (c .before .if5 .taken))
+
+returns-7 : tie.Need-returns-7
+returns-7 c =
     let s = c .before .before .before .before .before .before .before .before .before .before .before .before .before .before .before .before .before .before .before .args .s in
     let room = c .before .before .before .before .before .before .before .before .before .before .before .before .before .before .before .before .before .before .before .args .room in
     let few = c .before .before .before .before .before .before .before .before .before .before .before .before .before .before .before .if1 .left in
@@ -85,22 +105,9 @@ returns-6 c =
     let same = c .before .before .before .before .before .before .before .before .before .before .if3 .left in
     let sums = c .before .before .before .before .before .before .before .before .before .sums-of in
     let measured = c .before .before .before .before .before .before .before .before .measure in
-    let placed = c .before .before .before .before .before .before .if4 .left in
-    let based = sym (c .before .before .before .before .before .base-length .ensures) ∙ c .before .before .before .before .if5 .left in
-    unfit-judges _ _ _ (c .unfit6 .ensures) (over-taken s room few rise same (sums .result) (sums .ensures) (measured .result) (measured .ensures) placed based (c .before .if6 .taken))
-
-returns-7 : tie.Need-returns-7
-returns-7 c =
-    let s = c .before .before .before .before .before .before .before .before .before .before .before .before .before .before .before .before .before .before .args .s in
-    let room = c .before .before .before .before .before .before .before .before .before .before .before .before .before .before .before .before .before .before .args .room in
-    let few = c .before .before .before .before .before .before .before .before .before .before .before .before .before .before .if1 .left in
-    let rise = sym (c .before .before .before .before .before .before .before .before .before .before .before .before .positions-number .ensures) ∙ c .before .before .before .before .before .before .before .before .before .before .before .if2 .left in
-    let same = c .before .before .before .before .before .before .before .before .before .if3 .left in
-    let sums = c .before .before .before .before .before .before .before .before .sums-of in
-    let measured = c .before .before .before .before .before .before .before .measure in
-    let placed = c .before .before .before .before .before .if4 .left in
-    let based = sym (c .before .before .before .before .base-length .ensures) ∙ c .before .before .before .if5 .left in
-    fit-judges s room few rise same (sums .result) (sums .ensures) (measured .result) (measured .ensures) placed based _ (c .if6 .left) refl
+    let holds = c .before .before .before .before .before .before .measured .given in
+    let based = sym (c .before .before .before .before .base-length .ensures) ∙ c .before .before .before .if4 .left in
+    fit-judges s room few rise same (sums .result) (sums .ensures) (measured .result) (measured .ensures) _ (holds .1) based _ (c .if5 .left) refl
 
 pub judge-spec : {M : Type 1} → statement M
 judge-spec =
@@ -116,6 +123,8 @@ judge-spec =
     returns-3
     sums-of-requires
     measure-requires
+    enum-known-measured
+    enum-told
     unfit-requires-4
     returns-4
     base-length-requires

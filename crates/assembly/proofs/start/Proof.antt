@@ -88,17 +88,27 @@ measure-requires c κs =
     let filled = c .before .before .fill-reads .ensures ∙ ap (λ (u : List ℕ). stored zeroReads 0 (each 24 markedSegmentAt (shape .reads) u)) (part-from 16 frame) in
     chunks-ready frame shape f (c .before .before .fill-reads .result) filled
 
+enum-told-2 : tie.Need-enum-told-2
+enum-told-2 c = search needs
+
+enum-told-3 : tie.Need-enum-told-3
+enum-told-3 c = search needs
+
+measure-refusal-requires : tie.Need-measure-refusal-requires
+measure-refusal-requires c κs = search needs
+
 not-started-requires-2 : tie.Need-not-started-requires-2
 not-started-requires-2 c κs = search needs
 
 returns-2 : tie.Need-returns-2
 returns-2 c =
-    let frame = now (c .before .before .before .before .before .before .before .before .before .before .before .before .before .before .args .frame) in
-    let shape = c .before .before .before .before .before .before .before .before .before .walk .given .0 .0 in
-    let f = found frame shape (sym (c .before .before .before .before .before .before .before .before .before .before .before .walk-frame .ensures) ∙ c .before .before .before .before .before .before .before .before .before .walk .given .1) in
+    let frame = now (c .before .before .before .before .before .before .before .before .before .before .before .before .before .before .before .args .frame) in
+    let shape = c .before .before .before .before .before .before .before .before .before .before .walk .given .0 .0 in
+    let f = found frame shape (sym (c .before .before .before .before .before .before .before .before .before .before .before .before .walk-frame .ensures) ∙ c .before .before .before .before .before .before .before .before .before .before .walk .given .1) in
     let b = bounds frame shape f in
-    let filled = c .before .before .before .before .before .before .fill-reads .ensures ∙ ap (λ (u : List ℕ). stored zeroReads 0 (each 24 markedSegmentAt (shape .reads) u)) (part-from 16 frame) in
-    rw (c .not-started2 .ensures) (not-started-is frame shape f (c .before .before .before .before .before .before .fill-reads .result) filled (c .before .before .before .before .before .sums-of .result) (c .before .before .before .before .before .sums-of .ensures) (c .before .before .before .before .base-length .result) (c .before .before .before .before .base-length .ensures) (length (now (c .before .before .before .before .before .before .before .before .before .before .before .before .before .before .args .out))) (c .before .before .before .measure .result) (c .before .before .before .measure .ensures) (c .before .if1 .taken) (now (c .before .before .before .before .before .before .before .before .before .before .before .before .before .before .args .out)) refl)
+    let filled = c .before .before .before .before .before .before .before .fill-reads .ensures ∙ ap (λ (u : List ℕ). stored zeroReads 0 (each 24 markedSegmentAt (shape .reads) u)) (part-from 16 frame) in
+    let told = c .before .before .enum-told3 .given in
+    rw (c .not-started2 .ensures, c .before .measure-refusal .ensures, told .1) (not-started-is frame shape f (c .before .before .before .before .before .before .before .fill-reads .result) filled (c .before .before .before .before .before .before .sums-of .result) (c .before .before .before .before .before .before .sums-of .ensures) (c .before .before .before .before .before .base-length .result) (c .before .before .before .before .before .base-length .ensures) (length (now (c .before .before .before .before .before .before .before .before .before .before .before .before .before .before .before .args .out))) (c .before .before .before .before .measure .result) (c .before .before .before .before .measure .ensures) _ (told .1) (now (c .before .before .before .before .before .before .before .before .before .before .before .before .before .before .before .args .out)) refl)
 
 lay-requires : tie.Need-lay-requires
 lay-requires c κs =
@@ -107,7 +117,7 @@ lay-requires c κs =
     let f = found frame shape (sym (c .before .before .before .before .before .before .before .before .before .before .before .walk-frame .ensures) ∙ c .before .before .before .before .before .before .before .before .before .walk .given .1) in
     let b = bounds frame shape f in
     let filled = c .before .before .before .before .before .before .fill-reads .ensures ∙ ap (λ (u : List ℕ). stored zeroReads 0 (each 24 markedSegmentAt (shape .reads) u)) (part-from 16 frame) in
-    let l = start-laid frame shape f (c .before .before .before .before .before .before .fill-reads .result) filled (c .before .before .before .before .before .sums-of .result) (c .before .before .before .before .before .sums-of .ensures) (c .before .before .before .before .base-length .result) (c .before .before .before .before .base-length .ensures) (length (now (c .before .before .before .before .before .before .before .before .before .before .before .before .before .before .args .out))) (c .before .before .before .measure .result) (c .before .before .before .measure .ensures) (c .before .if1 .left) in
+    let l = start-laid frame shape f (c .before .before .before .before .before .before .fill-reads .result) filled (c .before .before .before .before .before .sums-of .result) (c .before .before .before .before .before .sums-of .ensures) (c .before .before .before .before .base-length .result) (c .before .before .before .before .base-length .ensures) (length (now (c .before .before .before .before .before .before .before .before .before .before .before .before .before .before .args .out))) (c .before .before .before .measure .result) (c .before .before .before .measure .ensures) _ (c .before .enum-told2 .given .1) in
     (b .reads-few, l .0, l .1, b .end-short, l .2)
 
 cast-t23 : tie.Need-cast-t23
@@ -128,7 +138,7 @@ returns-3 c =
     let f = found frame shape (sym (c .before .before .before .before .before .before .before .before .before .before .before .before .before .before .walk-frame .ensures) ∙ c .before .before .before .before .before .before .before .before .before .before .before .before .walk .given .1) in
     let b = bounds frame shape f in
     let filled = c .before .before .before .before .before .before .before .before .before .fill-reads .ensures ∙ ap (λ (u : List ℕ). stored zeroReads 0 (each 24 markedSegmentAt (shape .reads) u)) (part-from 16 frame) in
-    started-is frame shape f (c .before .before .before .before .before .before .before .before .before .fill-reads .result) filled (c .before .before .before .before .before .before .before .before .sums-of .result) (c .before .before .before .before .before .before .before .before .sums-of .ensures) (c .before .before .before .before .before .before .before .base-length .result) (c .before .before .before .before .before .before .before .base-length .ensures) (length (now (c .before .before .before .before .before .before .before .before .before .before .before .before .before .before .before .before .before .args .out))) (c .before .before .before .before .before .before .measure .result) (c .before .before .before .before .before .before .measure .ensures) (c .before .before .before .before .if1 .left) (now (c .before .before .before .before .before .before .before .before .before .before .before .before .before .before .before .before .before .args .out)) _ refl (c .before .before .lay .ensures)
+    started-is frame shape f (c .before .before .before .before .before .before .before .before .before .fill-reads .result) filled (c .before .before .before .before .before .before .before .before .sums-of .result) (c .before .before .before .before .before .before .before .before .sums-of .ensures) (c .before .before .before .before .before .before .before .base-length .result) (c .before .before .before .before .before .before .before .base-length .ensures) (length (now (c .before .before .before .before .before .before .before .before .before .before .before .before .before .before .before .before .before .args .out))) (c .before .before .before .before .before .before .measure .result) (c .before .before .before .before .before .before .measure .ensures) _ (c .before .before .before .before .enum-told2 .given .1) (now (c .before .before .before .before .before .before .before .before .before .before .before .before .before .before .before .before .before .args .out)) _ refl (c .before .before .lay .ensures)
 
 pub start-spec : {M : Type 1} → statement M
 start-spec =
@@ -148,6 +158,9 @@ start-spec =
     sub-base-length
     base-length-requires
     measure-requires
+    enum-told-2
+    enum-told-3
+    measure-refusal-requires
     not-started-requires-2
     returns-2
     lay-requires
