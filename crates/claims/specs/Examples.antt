@@ -11,7 +11,7 @@ use Rattle.header.specs.declared.Header.{Header}
 use Rattle.header.specs.declared.Kind.the-variants.{Msg}
 use Rattle.writer.specs.Write.{writeAnswer, writtenInto}
 use Rattle.assembly.specs.Assembly.{startAnswer}
-use Rattle.claims.specs.Tally.{Call, piece, asking, Outcome, replayed}
+use Rattle.claims.specs.Tally.{Call, piece, asking, Outcome, gives, startThen}
 use Rattle.setup.specs.Setup.{readSetup, noSetup}
 use Rattle.setup.specs.declared.SetupAnswer.{SetupAnswer}
 use Rattle.reply.specs.Reply.{grantAnswer, errorReplyAnswer, errorReplyInto}
@@ -44,7 +44,7 @@ Holds (replied frame number limit reply) =
     × (errorReplyInto frame number limit (replicate (length reply) 0) ≡ reply)
 Holds (starts frame room number) = startAnswer (readFrame frame) room .number ≡ number
 Holds (assembles frame room calls outcomes) =
-    (startAnswer (readFrame frame) room .number ≡ 0) × (replayed frame (replicate room 0xff) calls .outcomes ≡ outcomes)
+    (startAnswer (readFrame frame) room .number ≡ 0) × (startThen frame (replicate room 0xff) calls .outcomes ≡ outcomes)
 Holds (setup-reads bytes answer) = readSetup bytes ≡ answer
 Holds (grants asked limit credit) = grantAnswer asked limit ≡ record { credit = credit; number = 0 }
 
@@ -73,9 +73,6 @@ five = 0xa1 ∷ 0xa2 ∷ 0xa3 ∷ 0xa4 ∷ 0xa5 ∷ []
 
 abbrev pub c6Message : List ℕ
 c6Message = 1 ∷ 2 ∷ 3 ∷ 4 ∷ 5 ∷ 6 ∷ 7 ∷ 8 ∷ 0xa1 ∷ 0xa2 ∷ 0xa3 ∷ 0xa4 ∷ 0xa5 ∷ 0 ∷ 0 ∷ 0 ∷ 9 ∷ 10 ∷ 11 ∷ 12 ∷ []
-
-abbrev pub gives : ℕ → List ℕ → Outcome
-gives number part = record { number = number; part = part }
 
 -- "C10 f6 ab 0e 18 01 01 03 07"
 abbrev pub c10 : List ℕ
