@@ -20,7 +20,7 @@ use Rattle.layout.specs.Layout.{otherChunks, baseLength, pulledPlaces}
 use Rattle.layout.proofs.Putting.{length-put, put-none, put-append}
 use Rattle.assembly.specs.Assembly.{baseOf, startNumber, startState, laid, startedInto, readsOf, chunksOf, pulledOf, canArise, fitsState, takeNumber, tookMore, takeAnswer, takenInto, askNumber, askPart}
 use Rattle.assembly.specs.declared.State.{State}
-use Rattle.claims.specs.Tally.{Call, piece, asking, played, pulledPlacesOf, tallyBuffer, hasRoom, isFull, tallyMessage, tallyAsked, grown, tally, gives, askOutcome, Cut}
+use Rattle.claims.specs.Tally.{Call, piece, asking, played, pulledPlacesOf, tallyBuffer, hasRoom, isFull, tallyMessage, tallyAsked, grown, tally, gives, answered, askOutcome, Cut}
 use Rattle.claims.proofs.Cutting.{withReads, others-cut, any-cut, zero-cut, rise-cut}
 
 -- The base length does not depend on the cut, and for a state it is the one it holds.
@@ -126,10 +126,16 @@ module _ (c : Content) (inline out : List ℕ) (cut : List ReadSegment) (ok : st
         by true e = rw length-append (leb-true _ _ e)
         by false e = l
 
+    -- What a piece hands on.
+    after-piece : (v : List ℕ) (calls : List Call) → played (after (length t)) (tallyBuffer c inline out t) (piece v ∷ calls)
+        ≡ answered (gives (cond (hasRoom c inline t v) 0 18) []) (played (after (length (grown c inline t v))) (tallyBuffer c inline out (grown c inline t v)) calls)
+    unfolding played
+    after-piece v calls = rw (take-number v, take-state v, take-buffer v)
+
   same : (calls : List Call) (t : List ℕ) → length t ≤ length (pulledPlacesOf c inline) → played (after (length t)) (tallyBuffer c inline out t) calls ≡ tally c inline out t calls
   unfolding played tally
   same [] t l = rw (ask-outcome t l)
-  same (piece v ∷ calls) t l = rw (take-number t l v, take-state t l v, take-buffer t l v, same calls (grown c inline t v) (grown-fits t l v))
+  same (piece v ∷ calls) t l = after-piece t l v calls ∙ ap (answered (gives (cond (hasRoom c inline t v) 0 18) [])) (same calls (grown c inline t v) (grown-fits t l v))
   same (asking ∷ calls) t l = rw (ask-outcome t l, same calls t l)
 
   started-state : startState (done (withReads c cut) inline) (length out) ≡ after 0
