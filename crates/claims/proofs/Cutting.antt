@@ -2,7 +2,7 @@
 -- Assumes nothing.
 use mathlib.Core.Path.{_≡_, refl, sym}
 use mathlib.Core.Bool.{Bool, true, false, cond, _||_}
-use mathlib.Core.List.{List}
+use mathlib.Core.List.{List, [], _∷_}
 use Prim.Native.Nat.{ℕ, _+_}
 use native.Mathlib.Nat.{le-refl, add-assoc}
 use native.Mathlib.Omega.{arith}
@@ -12,9 +12,19 @@ use borrow.Author.Tests.{le-leb}
 use Rattle.wire.specs.declared.ReadSegment.{ReadSegment}
 use Rattle.lists.specs.Lists.{positionsNumber}
 use Rattle.lists.proofs.Positions.{rises}
+use Rattle.header.specs.Content.{Content}
 use Rattle.layout.specs.Layout.{anyAtZero, zeroLength, otherChunks, joinChunk}
 use Rattle.layout.proofs.Joins.{join-join}
 use Rattle.claims.specs.Tally.{Cut, none, last, more}
+
+-- What a frame says whose read list was cut.
+abbrev pub withReads : Content → List ReadSegment → Content
+withReads c cut = record { kind = c .kind; xid = c .xid; credit = c .credit; reads = cut; writes = c .writes; reply = c .reply }
+
+-- A list is a cut of itself.
+pub itself : (reads : List ReadSegment) → Cut reads reads
+itself [] = none
+itself (x ∷ xs) = last refl refl (itself xs)
 
 -- The chunks of a cut.
 pub others-cut : {xs ys : List ReadSegment} → Cut xs ys → otherChunks ys ≡ otherChunks xs

@@ -20,4 +20,4 @@ use Rattle.claims.specs.Examples.{Holds, entryWords, examples}
 -- "C1 to C13 are proved from the definitions as one list with one claim over it."
 pub worked : All Holds examples
 unfolding All words joined wordBytes readFrame byProcedure threeParts readList readEntry segments counted each writeList replyChunk markerOf wordOf wordAt segmentAt readSegmentAt writeAnswer writtenInto writeNumber withinLimits total positionsNumber headerOf contentOf runs headerBytes fixedBytes readListBytes writeListBytes replyBytes chunkBytes countedBytes entryBytes segmentBytes readSegmentBytes isSetup readSetup granted grantAnswer replyKindOf replyKindFor errorReply errorReplyNumber errorReplyAnswer errorReplyInto entryWords startNumber startAnswer startInto laid canArise takeNumber takeAnswer takenInto askNumber askPart played anyAtZero zeroLength joinChunk otherChunks roundedUp roundedTotal stands placeNumber places gaps paddings paddingPlaces basePlaces pulledPlaces from put
-worked = ((refl, refl), ((refl, refl), ((refl, refl), ((refl, refl), ((refl, refl), ((refl, refl), ((refl, refl), ((refl, refl), (refl, (refl, (refl, (refl, (refl, ((refl, refl), ((refl, refl), (refl, (refl, (refl, (refl, ((refl, refl), tt))))))))))))))))))))
+worked = ((refl, refl), ((refl, refl), ((refl, refl), ((refl, refl), ((refl, refl), ((refl, refl), ((refl, refl), ((refl, refl), ((refl, refl), ((refl, refl), (refl, (refl, (refl, ((refl, refl), ((refl, refl), (refl, (refl, (refl, (refl, ((refl, refl), tt))))))))))))))))))))

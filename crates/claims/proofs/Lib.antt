@@ -11,9 +11,11 @@ pub mod Examples
 pub mod Setup
 pub mod Replies
 pub mod Cutting
-pub mod Tallied
 pub mod Recut
-pub mod Demand3
+pub mod Tallied
+pub mod Settled
+pub mod Started
 pub mod Apart
 pub mod Woven
 pub mod Message
+pub mod Demand3

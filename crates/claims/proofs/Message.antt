@@ -1,15 +1,14 @@
 -- Demand 2: once all bytes are in, the buffer holds the message, and behind it what it held before.
 -- Assumes nothing.
 use mathlib.Core.Path.{_≡_, refl, sym, ap, _∙_}
-use mathlib.Core.Bool.{Bool, true}
+use mathlib.Core.Bool.{Bool, true, false, cond}
 use mathlib.Core.List.{List, [], _∷_, _++_}
 use Prim.Native.Nat.{ℕ, _+_, _-_, _≤_}
 use native.Mathlib.Nat.{le-refl}
 use native.Mathlib.Omega.{arith}
 use lib.ListN.{length, take, drop, replicate, length-append, length-drop, take-append-drop}
 use lib.Seq.{take-at, length-take-le}
-use borrow.Author.Tests.{eq-eqb}
-use Rattle.wire.specs.declared.ReadSegment.{ReadSegment}
+use borrow.Author.Tests.{eq-eqb, eqb-true}
 use Rattle.lists.specs.Parsed.{done}
 use Rattle.header.specs.Content.{Content}
 use Rattle.header.specs.Frame.{readFrame}
@@ -21,15 +20,15 @@ use Rattle.layout.specs.Layout.{kindFits, anyAtZero, otherChunks, baseLength, r
 use Rattle.layout.specs.declared.Run.{Run}
 use Rattle.layout.proofs.Putting.{put-none, length-places}
 use Rattle.placing.proofs.Laws.{Placed, all-placed, length-base}
-use Rattle.assembly.specs.Assembly.{baseOf, startNumber, startAnswer, laid}
-use Rattle.assembly.proofs.Starting.{Passed, place-passed}
+use Rattle.assembly.specs.Assembly.{baseOf, startAnswer, laid}
 use Rattle.claims.specs.RoundTrip.{AllBytes}
-use Rattle.claims.specs.Tally.{Call, Outcome, wanted, tallyBuffer, tallyMessage, recut, replayed, takenBytes, lastOf, thenAsk, CutOf}
+use Rattle.claims.specs.Tally.{Call, Ending, gives, pulledPlacesOf, tallyBuffer, isFull, tallyMessage, tally, startThen, takenBytes, Finished}
 use Rattle.claims.specs.Message.{messageFrom, wholeMessage, messageOf}
 use Rattle.claims.proofs.Apart.{Apart, put-comm, apart-by, above-from, below-from, apart-right, apart-left, apart-nil, apart-sym, put-join}
 use Rattle.claims.proofs.Woven.{le-up, woven, above-gaps, above-pads}
 use Rattle.claims.proofs.Tallied.{length-tally}
-use Rattle.claims.proofs.Demand3.{settled, all-tallied, zero-number}
+use Rattle.claims.proofs.Settled.{left, settled}
+use Rattle.claims.proofs.Started.{passed, uncut-tallied}
 
 -- The base and the padding lie apart.
 apart-gaps-pads : (a m t : ℕ) (cs : List Run) → Placed a t cs → Apart (places (gaps a m cs)) (places (paddings cs))
@@ -88,32 +87,48 @@ base-inline kind c inline e f = by (c .kind) (e ∙ f)
     by Nomsg q = absurd (let n : _≡_ {A = ℕ} 0 1 = cc in omega arith)
     by (Error x) q = refl
 
--- The first bytes of a buffer that holds the message and then what it held.
-front : (m : ℕ) (x w out : List ℕ) → x ≡ w ++ drop m out → length x ≡ length out → m ≤ length out → take m x ≡ w
-front m x w out e l h =
+-- An asking that is answered 0 says that all bytes are in.
+asked-full : (c : Content) (inline out t : List ℕ) → tally c inline out t [] .asked .number ≡ 0 → length t ≡ length (pulledPlacesOf c inline)
+unfolding tally
+asked-full c inline out t e = by (isFull c inline t) refl e
+  where
+    by : (x : Bool) → isFull c inline t ≡ x → cond x (gives 0 (tallyMessage c inline out t)) (gives 19 []) .number ≡ 0 → length t ≡ length (pulledPlacesOf c inline)
+    by true q z = eqb-true _ _ q
+    by false q z = absurd (omega arith)
+
+-- A buffer that holds m bytes of a message and then what it held: how long the message is, and that it stands first.
+message-front : (m : ℕ) (x w out : List ℕ) → x ≡ w ++ drop m out → length x ≡ length out → m ≤ length out → (length w ≡ m) × (take m x ≡ w)
+message-front m x w out e l h =
     let k : length x ≡ length w + (length out - m) = ap length e ∙ rw (length-append, length-drop) in
-    rw e (take-at w (drop m out) m (omega arith))
+    (omega arith, rw e (take-at w (drop m out) m (omega arith)))
 
-module _ (frame out : List ℕ) (c : Content) (inline : List ℕ) (b : AllBytes frame) (read : readFrame frame ≡ done c inline) (ok : startAnswer (readFrame frame) (length out) .number ≡ 0) (t : List ℕ) (full : length t ≡ length (wanted c inline)) where
-  passed : Passed (c .kind) (anyAtZero (c .reads)) (baseOf c inline) (otherChunks (c .reads)) (length out)
-  unfolding startNumber
-  passed = place-passed (c .kind) (anyAtZero (c .reads)) (baseOf c inline) (otherChunks (c .reads)) (length out) (zero-number frame out c inline b read ok)
+module _ (frame out : List ℕ) (c : Content) (inline : List ℕ) (b : AllBytes frame) (read : readFrame frame ≡ done c inline) (ok : startAnswer (readFrame frame) (length out) .number ≡ 0) where
+  module _ (t : List ℕ) (full : length t ≡ length (pulledPlacesOf c inline)) where
+    -- Each byte at its place, and the bytes behind untouched.
+    finished-buffer : tallyBuffer c inline out t ≡ messageOf c inline t ++ drop (messageLength (baseOf c inline) (otherChunks (c .reads))) out
+    unfolding tallyBuffer
+    finished-buffer =
+        let p = passed frame out c inline b read ok in
+        whole (c .kind) (baseOf c inline) (otherChunks (c .reads)) inline t out (anyAtZero (c .reads)) (p .fits) (p .stand) (p .holds) full
+        (nomsg-ends frame c inline read) (base-inline (c .kind) c inline refl)
 
-  -- "holds each inline byte, pulled byte and padding byte at its defined place, once; bytes behind its end are untouched"
-  pub finished-buffer : tallyBuffer c inline out t ≡ messageOf c inline t ++ drop (messageLength (baseOf c inline) (otherChunks (c .reads))) out
-  unfolding tallyBuffer
-  finished-buffer =
-      whole (c .kind) (baseOf c inline) (otherChunks (c .reads)) inline t out (anyAtZero (c .reads)) (passed .fits) (passed .stand) (passed .holds) full
-      (nomsg-ends frame c inline read) (base-inline (c .kind) c inline refl)
+    finished-front : (length (messageOf c inline t) ≡ messageLength (baseOf c inline) (otherChunks (c .reads))) × (tallyMessage c inline out t ≡ messageOf c inline t)
+    finished-front = message-front _ _ _ out finished-buffer (length-tally c inline out t) (passed frame out c inline b read ok .holds)
 
-  pub finished-message : tallyMessage c inline out t ≡ messageOf c inline t
-  finished-message = front _ _ _ out finished-buffer (length-tally c inline out t) (passed .holds)
+    -- "The message has B + R1 + R2 + ... bytes."
+    pub message-length : length (messageOf c inline t) ≡ messageLength (baseOf c inline) (otherChunks (c .reads))
+    message-length = finished-front .0
 
-  -- "Once all bytes are in, that answer is 0 and the message of demand 2, as in one piece uncut."
-  pub all-in : (cut : List ReadSegment) → CutOf (c .reads) cut → (calls : List Call) → t ≡ takenBytes calls (replayed (recut frame (c .reads) cut) out (thenAsk calls) .outcomes) →
-      ((o : Outcome) → lastOf o (replayed (recut frame (c .reads) cut) out (thenAsk calls) .outcomes) ≡ record { number = 0; part = messageOf c inline t })
-      × (replayed (recut frame (c .reads) cut) out (thenAsk calls) .buffer ≡ messageOf c inline t ++ drop (messageLength (baseOf c inline) (otherChunks (c .reads))) out)
-  all-in cut k calls e =
-      let s = settled c inline out t calls (rw (all-tallied frame out c inline b read ok cut k (thenAsk calls)) at e) in
-      rw (all-tallied frame out c inline b read ok cut k (thenAsk calls))
-      ((λ o. s .answer o ∙ rw (eq-eqb (length t) (length (wanted c inline)) full, finished-message)), s .buffer ∙ finished-buffer)
+    -- Once all bytes are in, what is left holds the message.
+    pub finished-left : (x : Ending) → left x ≡ tally c inline out t [] → Finished c inline out t x
+    unfolding tally
+    finished-left x e = record {
+      answer = ap (λ (z : Ending). z .asked) e ∙ rw (eq-eqb (length t) (length (pulledPlacesOf c inline)) full, finished-front .1);
+      buffer = ap (λ (z : Ending). z .buffer) e ∙ rw message-length finished-buffer;
+    }
+
+  -- "A finished message, its state and buffer handed on unaltered from call to call since its accepted start, holds each inline byte, pulled byte and padding byte at its defined place, once; bytes behind its end are untouched."
+  pub finished : (calls : List Call) → startThen frame out calls .asked .number ≡ 0 → Finished c inline out (takenBytes calls (startThen frame out calls .outcomes)) (startThen frame out calls)
+  finished calls = rw (uncut-tallied frame out c inline b read ok calls) (λ e.
+      let s = settled c inline out _ calls refl in
+      finished-left _ (asked-full c inline out _ (sym (ap (λ (z : Ending). z .asked .number) s) ∙ e)) _ s)

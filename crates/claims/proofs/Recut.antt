@@ -1,9 +1,9 @@
--- A frame whose read list was cut is read as what was cut.
+-- A frame whose read list was cut is read as what was cut; a frame whose read list is put in its own place is that frame.
 -- Assumes nothing.
 use mathlib.Core.Path.{_≡_, sym, ap, _∙_}
 use mathlib.Core.Bool.{Bool, true}
 use mathlib.Core.List.{List, _++_, append-assoc}
-use Prim.Native.Nat.{ℕ, _+_, _≤_}
+use Prim.Native.Nat.{ℕ, _+_}
 use native.Mathlib.Omega.{arith}
 use lib.ListN.{length, take, drop, length-append}
 use lib.Seq.{take-at, drop-at}
@@ -16,12 +16,12 @@ use Rattle.header.specs.declared.Kind.the-variants.{Msg, Nomsg, Error}
 use Rattle.writer.specs.Bytes.{readListBytes, writeListBytes, replyBytes, fixedBytes, partsBytes, restBytes, headerBytes}
 use Rattle.writer.proofs.Laws.{fixed-length}
 use Rattle.layout.specs.Layout.{kindFits}
-use Rattle.claims.specs.RoundTrip.{AllBytes, All, ReadSegmentFits}
-use Rattle.claims.specs.Tally.{Cut, recut, withReads}
+use Rattle.claims.specs.RoundTrip.{AllBytes}
+use Rattle.claims.specs.Tally.{CutOf, recut}
 use Rattle.claims.proofs.Allowed.{Allowed, BareIfError}
 use Rattle.claims.proofs.ReadBack.{header-back}
 use Rattle.claims.proofs.FrameRead.{frame-done}
-use Rattle.claims.proofs.Cutting.{rise-cut}
+use Rattle.claims.proofs.Cutting.{withReads, itself, rise-cut}
 
 -- The bytes of a frame whose read list was cut.
 recut-bytes : (fixed reads rest cut s : List ℕ) → length fixed ≡ 16 → fixed ++ (reads ++ rest) ≡ s → take 16 s ++ (cut ++ drop (16 + length reads) s) ≡ fixed ++ (cut ++ rest)
@@ -31,8 +31,7 @@ recut-bytes fixed reads rest cut s n e =
     let behind : drop (16 + length reads) s ≡ rest = ap (drop (16 + length reads)) (sym e ∙ sym (append-assoc fixed reads rest)) ∙ drop-at (fixed ++ reads) rest (16 + length reads) long in
     rw (front, behind)
 
-module _ (s : List ℕ) (c : Content) (t : List ℕ) (cut : List ReadSegment) (b : AllBytes s) (read : readFrame s ≡ done c t) (atZero : Bool) (fits : kindFits (c .kind) atZero ≡ true)
-    (k : Cut (c .reads) cut) (few : length cut ≤ 16) (fit : All ReadSegmentFits cut) where
+module _ (s : List ℕ) (c : Content) (t : List ℕ) (b : AllBytes s) (read : readFrame s ≡ done c t) (atZero : Bool) (fits : kindFits (c .kind) atZero ≡ true) where
   parts : (kind : Kind) → kindFits kind atZero ≡ true → (reads : List ReadSegment) →
       (fixedBytes kind (c .xid) (c .credit) ++ restBytes kind (partsBytes reads (c .writes) (c .reply))) ++ t
       ≡ fixedBytes kind (c .xid) (c .credit) ++ (readListBytes reads ++ ((writeListBytes (c .writes) ++ replyBytes (c .reply)) ++ t))
@@ -44,21 +43,36 @@ module _ (s : List ℕ) (c : Content) (t : List ℕ) (cut : List ReadSegment) (b
   unfolding headerBytes
   split reads = parts (c .kind) fits reads
 
+  -- The bytes of the frame with another read list.
+  recut-is : (cut : List ReadSegment) → recut s (c .reads) cut ≡ headerBytes (withReads c cut) ++ t
+  unfolding recut
+  recut-is cut =
+      let whole = sym (split (c .reads)) ∙ frame-done s c t b read .bytes in
+      recut-bytes (fixedBytes (c .kind) (c .xid) (c .credit)) (readListBytes (c .reads)) ((writeListBytes (c .writes) ++ replyBytes (c .reply)) ++ t) (readListBytes cut) s (fixed-length (c .kind) (c .xid) (c .credit)) whole
+      ∙ sym (split cut)
+
+  -- A frame cut into itself is the frame, and its read list is a cut of itself.
+  pub uncut : recut s (c .reads) (c .reads) ≡ s
+  uncut = recut-is (c .reads) ∙ frame-done s c t b read .bytes
+
+  pub cut-of-itself : CutOf (c .reads) (c .reads)
+  cut-of-itself = let a = frame-done s c t b read .allowed in record { cuts = itself (c .reads); few = a .reads-limit; fits = a .reads }
+
   bare : (kind : Kind) → kindFits kind atZero ≡ true → (d : Content) → BareIfError kind d
   bare Msg f d = tt
   bare Nomsg f d = tt
   bare (Error e) f d = absurd (let n : _≡_ {A = ℕ} 0 1 = cc in omega arith)
 
-  allowed : Allowed (withReads c cut)
-  allowed =
+  allowed : (cut : List ReadSegment) → CutOf (c .reads) cut → Allowed (withReads c cut)
+  allowed cut k =
       let a = frame-done s c t b read .allowed in
       record {
         kind = a .kind;
         xid = a .xid;
         credit = a .credit;
-        reads = fit;
-        reads-limit = few;
-        rising = rise-cut k 0 (a .rising);
+        reads = k .fits;
+        reads-limit = k .few;
+        rising = rise-cut (k .cuts) 0 (a .rising);
         writes = a .writes;
         chunks-limit = a .chunks-limit;
         writes-limit = a .writes-limit;
@@ -66,9 +80,5 @@ module _ (s : List ℕ) (c : Content) (t : List ℕ) (cut : List ReadSegment) (b
         bare = bare (c .kind) fits (withReads c cut);
       }
 
-  pub cut-read : readFrame (recut s (c .reads) cut) ≡ done (withReads c cut) t
-  unfolding recut
-  cut-read =
-      let whole = sym (split (c .reads)) ∙ frame-done s c t b read .bytes in
-      let bytes = recut-bytes (fixedBytes (c .kind) (c .xid) (c .credit)) (readListBytes (c .reads)) ((writeListBytes (c .writes) ++ replyBytes (c .reply)) ++ t) (readListBytes cut) s (fixed-length (c .kind) (c .xid) (c .credit)) whole in
-      ap readFrame (bytes ∙ sym (split cut)) ∙ header-back (withReads c cut) t allowed (frame-done s c t b read .behind)
+  pub cut-read : (cut : List ReadSegment) → CutOf (c .reads) cut → readFrame (recut s (c .reads) cut) ≡ done (withReads c cut) t
+  cut-read cut k = ap readFrame (recut-is cut) ∙ header-back (withReads c cut) t (allowed cut k) (frame-done s c t b read .behind)

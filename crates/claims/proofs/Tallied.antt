@@ -20,8 +20,8 @@ use Rattle.layout.specs.Layout.{otherChunks, baseLength, pulledPlaces}
 use Rattle.layout.proofs.Putting.{length-put, put-none, put-append}
 use Rattle.assembly.specs.Assembly.{baseOf, startNumber, startState, laid, startedInto, readsOf, chunksOf, pulledOf, canArise, fitsState, takeNumber, tookMore, takeAnswer, takenInto, askNumber, askPart}
 use Rattle.assembly.specs.declared.State.{State}
-use Rattle.claims.specs.Tally.{Call, piece, asking, played, wanted, tallyBuffer, hasRoom, isFull, tallyMessage, grown, tally, Cut, withReads}
-use Rattle.claims.proofs.Cutting.{others-cut, any-cut, zero-cut, rise-cut}
+use Rattle.claims.specs.Tally.{Call, piece, asking, played, pulledPlacesOf, tallyBuffer, hasRoom, isFull, tallyMessage, tallyAsked, grown, tally, gives, answered, askOutcome, Cut}
+use Rattle.claims.proofs.Cutting.{withReads, others-cut, any-cut, zero-cut, rise-cut}
 
 -- The base length does not depend on the cut, and for a state it is the one it holds.
 base-cut : (kind : Kind) (inline : ℕ) (xs ys : List ReadSegment) → Cut xs ys → baseLength kind inline ys ≡ baseLength kind inline xs
@@ -43,9 +43,9 @@ module _ (c : Content) (inline out : List ℕ) (cut : List ReadSegment) (ok : st
   base-same = base-cut (c .kind) (length inline) (c .reads) cut k
 
   -- "the cut start is accepted too"
-  pub cut-accepted : startNumber (done (withReads c cut) inline) (length out) ≡ 0
+  pub cut-number : startNumber (done (withReads c cut) inline) (length out) ≡ 0
   unfolding startNumber
-  cut-accepted = rw (any-cut k, others-cut k, base-same) ok
+  cut-number = rw (any-cut k, others-cut k, base-same) ok
 
   -- The state of the cut start after n bytes.
   abbrev after : ℕ → State
@@ -57,10 +57,10 @@ module _ (c : Content) (inline out : List ℕ) (cut : List ReadSegment) (ok : st
   chunks-after : (n : ℕ) → chunksOf (after n) ≡ otherChunks (c .reads)
   chunks-after n = ap otherChunks (reads-after n) ∙ others-cut k
 
-  pulled-after : (n : ℕ) → pulledOf (after n) ≡ wanted c inline
+  pulled-after : (n : ℕ) → pulledOf (after n) ≡ pulledPlacesOf c inline
   pulled-after n = ap (pulledPlaces (c .kind) (baseOf c inline)) (chunks-after n)
 
-  fits-after : (n : ℕ) → n ≤ length (wanted c inline) → fitsState (after n) (length out) ≡ true
+  fits-after : (n : ℕ) → n ≤ length (pulledPlacesOf c inline) → fitsState (after n) (length out) ≡ true
   unfolding canArise startNumber
   fits-after n h =
       let zero-cut-base : baseLength (c .kind) (baseOf c inline) cut ≡ baseOf c inline = base-cut (c .kind) (baseOf c inline) (c .reads) cut k ∙ base-again (c .kind) (length inline) (c .reads) in
@@ -72,11 +72,11 @@ module _ (c : Content) (inline out : List ℕ) (cut : List ReadSegment) (ok : st
         others-cut k,
         ok,
         eq-eqb _ _ zero-cut-base,
-        le-leb n (length (wanted c inline)) h,
+        le-leb n (length (pulledPlacesOf c inline)) h,
         eq-eqb (length out) (length out) refl,
       )
 
-  module _ (t : List ℕ) (l : length t ≤ length (wanted c inline)) where
+  module _ (t : List ℕ) (l : length t ≤ length (pulledPlacesOf c inline)) where
     fits-now : fitsState (after (length t)) (length (tallyBuffer c inline out t)) ≡ true
     fits-now = rw (length-tally c inline out t) (fits-after (length t) l)
 
@@ -89,6 +89,13 @@ module _ (c : Content) (inline out : List ℕ) (cut : List ReadSegment) (ok : st
     ask-part = rw (ask-number, chunks-after (length t)) (by (isFull c inline t))
       where
         by : (x : Bool) → cond (eqb (cond x 0 19) 0) (tallyMessage c inline out t) [] ≡ cond x (tallyMessage c inline out t) []
+        by true = refl
+        by false = refl
+
+    ask-outcome : askOutcome (after (length t)) (tallyBuffer c inline out t) ≡ tallyAsked c inline out t
+    ask-outcome = rw (ask-number, ask-part) (by (isFull c inline t))
+      where
+        by : (x : Bool) → gives (cond x 0 19) (cond x (tallyMessage c inline out t) []) ≡ cond x (gives 0 (tallyMessage c inline out t)) (gives 19 [])
         by true = refl
         by false = refl
 
@@ -108,22 +115,28 @@ module _ (c : Content) (inline out : List ℕ) (cut : List ReadSegment) (ok : st
     unfolding takenInto tallyBuffer
     take-buffer v = rw (take-number v, pulled-after (length t)) (by (hasRoom c inline t v))
       where
-        by : (x : Bool) → cond (eqb (cond x 0 18) 0) (put (drop (length t) (wanted c inline)) v (tallyBuffer c inline out t)) (tallyBuffer c inline out t) ≡ tallyBuffer c inline out (cond x (t ++ v) t)
-        by true = sym (put-append (wanted c inline) t v (laid (baseOf c inline) (otherChunks (c .reads)) inline out))
+        by : (x : Bool) → cond (eqb (cond x 0 18) 0) (put (drop (length t) (pulledPlacesOf c inline)) v (tallyBuffer c inline out t)) (tallyBuffer c inline out t) ≡ tallyBuffer c inline out (cond x (t ++ v) t)
+        by true = sym (put-append (pulledPlacesOf c inline) t v (laid (baseOf c inline) (otherChunks (c .reads)) inline out))
         by false = refl
 
-    grown-fits : (v : List ℕ) → length (grown c inline t v) ≤ length (wanted c inline)
+    grown-fits : (v : List ℕ) → length (grown c inline t v) ≤ length (pulledPlacesOf c inline)
     grown-fits v = by (hasRoom c inline t v) refl
       where
-        by : (x : Bool) → hasRoom c inline t v ≡ x → length (cond x (t ++ v) t) ≤ length (wanted c inline)
+        by : (x : Bool) → hasRoom c inline t v ≡ x → length (cond x (t ++ v) t) ≤ length (pulledPlacesOf c inline)
         by true e = rw length-append (leb-true _ _ e)
         by false e = l
 
-  same : (calls : List Call) (t : List ℕ) → length t ≤ length (wanted c inline) → played (after (length t)) (tallyBuffer c inline out t) calls ≡ tally c inline out t calls
+    -- What a piece hands on.
+    after-piece : (v : List ℕ) (calls : List Call) → played (after (length t)) (tallyBuffer c inline out t) (piece v ∷ calls)
+        ≡ answered (gives (cond (hasRoom c inline t v) 0 18) []) (played (after (length (grown c inline t v))) (tallyBuffer c inline out (grown c inline t v)) calls)
+    unfolding played
+    after-piece v calls = rw (take-number v, take-state v, take-buffer v)
+
+  same : (calls : List Call) (t : List ℕ) → length t ≤ length (pulledPlacesOf c inline) → played (after (length t)) (tallyBuffer c inline out t) calls ≡ tally c inline out t calls
   unfolding played tally
-  same [] t l = refl
-  same (piece v ∷ calls) t l = rw (take-number t l v, take-state t l v, take-buffer t l v, same calls (grown c inline t v) (grown-fits t l v))
-  same (asking ∷ calls) t l = rw (ask-number t l, ask-part t l, same calls t l)
+  same [] t l = rw (ask-outcome t l)
+  same (piece v ∷ calls) t l = after-piece t l v calls ∙ ap (answered (gives (cond (hasRoom c inline t v) 0 18) [])) (same calls (grown c inline t v) (grown-fits t l v))
+  same (asking ∷ calls) t l = rw (ask-outcome t l, same calls t l)
 
   started-state : startState (done (withReads c cut) inline) (length out) ≡ after 0
   started-state = rw base-same

@@ -11,7 +11,7 @@ use Rattle.header.specs.declared.Header.{Header}
 use Rattle.header.specs.declared.Kind.the-variants.{Msg}
 use Rattle.writer.specs.Write.{writeAnswer, writtenInto}
 use Rattle.assembly.specs.Assembly.{startAnswer}
-use Rattle.claims.specs.Tally.{Call, piece, asking, Outcome, replayed}
+use Rattle.claims.specs.Tally.{Call, piece, asking, Outcome, gives, startThen}
 use Rattle.setup.specs.Setup.{readSetup, noSetup}
 use Rattle.setup.specs.declared.SetupAnswer.{SetupAnswer}
 use Rattle.reply.specs.Reply.{grantAnswer, errorReplyAnswer, errorReplyInto}
@@ -34,6 +34,7 @@ pub data Example : Type 0 where
   -- what is granted to one who asks, with a limit
   grants : ℕ → ℕ → ℕ → Example
 
+-- What it means that a worked example holds.
 abbrev pub Holds : Example → Type 0
 Holds (frame-reads frame number payload) = (readAnswer (readFrame frame) .number ≡ number) × (payloadOf (readFrame frame) ≡ payload)
 Holds (header-takes h size) =
@@ -44,7 +45,7 @@ Holds (replied frame number limit reply) =
     × (errorReplyInto frame number limit (replicate (length reply) 0) ≡ reply)
 Holds (starts frame room number) = startAnswer (readFrame frame) room .number ≡ number
 Holds (assembles frame room calls outcomes) =
-    (startAnswer (readFrame frame) room .number ≡ 0) × (replayed frame (replicate room 0xff) calls .outcomes ≡ outcomes)
+    (startAnswer (readFrame frame) room .number ≡ 0) × (startThen frame (replicate room 0xff) calls .outcomes ≡ outcomes)
 Holds (setup-reads bytes answer) = readSetup bytes ≡ answer
 Holds (grants asked limit credit) = grantAnswer asked limit ≡ record { credit = credit; number = 0 }
 
@@ -56,26 +57,37 @@ c2 = words (0x2a ∷ 1 ∷ 0x20 ∷ 0 ∷ 0 ∷ 0 ∷ 0 ∷ [])
 abbrev pub c3 : List ℕ
 c3 = words (0x2a ∷ 2 ∷ 0x20 ∷ 0 ∷ 0 ∷ 0 ∷ 0 ∷ [])
 
--- A call with a kind's procedure, these read entries of position and length, and these inline bytes.
+-- The words of a read list with these entries of position and length.
 unfoldable pub entryWords : List (ℕ × ℕ) → List ℕ
 entryWords [] = 0 ∷ []
 entryWords (e ∷ es) = 1 ∷ e .0 ∷ 7 ∷ e .1 ∷ 0 ∷ 9 ∷ entryWords es
 
+-- A frame with this procedure, these read entries and these inline bytes.
 abbrev pub call : ℕ → List (ℕ × ℕ) → List ℕ → List ℕ
 call procedure entries inline = words (0x2a ∷ 1 ∷ 0x20 ∷ procedure ∷ []) ++ words (entryWords entries) ++ words (0 ∷ 0 ∷ []) ++ inline
 
--- "inline 01 to 0c", "5 bytes a1 to a5" and C6's message.
+-- "inline 01 to 0c"
 abbrev pub twelve : List ℕ
 twelve = 1 ∷ 2 ∷ 3 ∷ 4 ∷ 5 ∷ 6 ∷ 7 ∷ 8 ∷ 9 ∷ 10 ∷ 11 ∷ 12 ∷ []
 
+-- "5 bytes a1 to a5"
 abbrev pub five : List ℕ
 five = 0xa1 ∷ 0xa2 ∷ 0xa3 ∷ 0xa4 ∷ 0xa5 ∷ []
 
+-- "01 to 08, a1 to a5, 00 00 00, 09 to 0c; 20 bytes"
 abbrev pub c6Message : List ℕ
 c6Message = 1 ∷ 2 ∷ 3 ∷ 4 ∷ 5 ∷ 6 ∷ 7 ∷ 8 ∷ 0xa1 ∷ 0xa2 ∷ 0xa3 ∷ 0xa4 ∷ 0xa5 ∷ 0 ∷ 0 ∷ 0 ∷ 9 ∷ 10 ∷ 11 ∷ 12 ∷ []
 
-abbrev pub gives : ℕ → List ℕ → Outcome
-gives number part = record { number = number; part = part }
+-- "a second chunk of 4 bytes", b1 to b4 here.
+abbrev pub four : List ℕ
+four = 0xb1 ∷ 0xb2 ∷ 0xb3 ∷ 0xb4 ∷ []
+
+-- "at 16 or 20: accepted, 24 bytes": the chunk before C6's last four bytes, or behind them.
+abbrev pub c7At16 : List ℕ
+c7At16 = 1 ∷ 2 ∷ 3 ∷ 4 ∷ 5 ∷ 6 ∷ 7 ∷ 8 ∷ 0xa1 ∷ 0xa2 ∷ 0xa3 ∷ 0xa4 ∷ 0xa5 ∷ 0 ∷ 0 ∷ 0 ∷ 0xb1 ∷ 0xb2 ∷ 0xb3 ∷ 0xb4 ∷ 9 ∷ 10 ∷ 11 ∷ 12 ∷ []
+
+abbrev pub c7At20 : List ℕ
+c7At20 = 1 ∷ 2 ∷ 3 ∷ 4 ∷ 5 ∷ 6 ∷ 7 ∷ 8 ∷ 0xa1 ∷ 0xa2 ∷ 0xa3 ∷ 0xa4 ∷ 0xa5 ∷ 0 ∷ 0 ∷ 0 ∷ 9 ∷ 10 ∷ 11 ∷ 12 ∷ 0xb1 ∷ 0xb2 ∷ 0xb3 ∷ 0xb4 ∷ []
 
 -- "C10 f6 ab 0e 18 01 01 03 07"
 abbrev pub c10 : List ℕ
@@ -103,8 +115,8 @@ examples =
     ∷ frame-reads (take 27 c2) 5 []
     ∷ frame-reads (words (0x2a ∷ 1 ∷ 0x20 ∷ 0 ∷ 2 ∷ 0 ∷ 0 ∷ [])) 6 []
     ∷ assembles (call 0 ((8, 5) ∷ []) twelve) 24 (asking ∷ piece (0 ∷ five) ∷ piece five ∷ asking ∷ []) (gives 19 [] ∷ gives 18 [] ∷ gives 0 [] ∷ gives 0 c6Message ∷ [])
-    ∷ starts (call 0 ((8, 5) ∷ (16, 4) ∷ []) twelve) 24 0
-    ∷ starts (call 0 ((8, 5) ∷ (20, 4) ∷ []) twelve) 24 0
+    ∷ assembles (call 0 ((8, 5) ∷ (16, 4) ∷ []) twelve) 24 (piece five ∷ piece four ∷ asking ∷ []) (gives 0 [] ∷ gives 0 [] ∷ gives 0 c7At16 ∷ [])
+    ∷ assembles (call 0 ((8, 5) ∷ (20, 4) ∷ []) twelve) 24 (piece (five ++ four) ∷ asking ∷ []) (gives 0 [] ∷ gives 0 c7At20 ∷ [])
     ∷ starts (call 0 ((8, 5) ∷ (20, 4) ∷ []) twelve) 23 16
     ∷ starts (call 0 ((8, 5) ∷ (12, 4) ∷ []) twelve) 24 14
     ∷ starts (call 0 ((8, 5) ∷ (24, 4) ∷ []) twelve) 24 14

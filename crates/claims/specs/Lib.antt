@@ -1,5 +1,5 @@
 pub mod RoundTrip
 pub mod Examples
 pub mod Replies
-pub mod Tally
 pub mod Message
+pub mod Tally
