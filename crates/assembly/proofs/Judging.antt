@@ -11,8 +11,8 @@ use Rattle.wire.specs.declared.ReadSegment.{ReadSegment}
 use Rattle.lists.specs.Lists.{positionsNumber}
 use Rattle.header.specs.declared.Kind.{Kind}
 use Rattle.header.specs.declared.Kind.the-variants.{Msg, Nomsg, Error}
-use Rattle.layout.specs.Layout.{messageLength, kindFits, anyAtZero, zeroLength, otherChunks, baseLength, stands, totalLength, placeNumber, pulledPlaces}
-use Rattle.layout.specs.Walks.{sumsOf, measuredOf}
+use Rattle.layout.specs.Layout.{messageLength, kindFits, anyAtZero, zeroLength, otherChunks, baseLength, stands, placeNumber, pulledPlaces}
+use Rattle.layout.specs.Walks.{totalLength, sumsOf, measuredOf}
 use Rattle.layout.specs.declared.Run.{Run}
 use Rattle.layout.specs.declared.Sums.{Sums}
 use Rattle.layout.specs.declared.Measured.{Measured}

@@ -34,7 +34,7 @@ use Rattle.placing.specs.Sources.{Laid, sourcePlaces}
 use Rattle.placing.proofs.Laws.{length-base}
 use Rattle.assembly.specs.Assembly.{baseOf, startNumber, startState, noState, startAnswer, laid, startedInto, startInto}
 use Rattle.assembly.specs.declared.State.{State}
-use Rattle.assembly.specs.declared.StartAnswer.{StartAnswer}
+use Rattle.assembly.specs.declared.StateAnswer.{StateAnswer}
 use Rattle.assembly.specs.Judged.{judgedBase}
 
 -- What measuring says of the number, with either answer.
@@ -177,7 +177,7 @@ unfolding startAnswer startInto startNumber
 refused-is s n room out e = rw e (by (eqb n 0) refl)
   where
     by : (b : Bool) → eqb n 0 ≡ b →
-        (_≡_ {A = StartAnswer} (record { state = noState; number = n }) (cond b (record { state = noState; number = 0 }) (record { state = noState; number = n }))) × (out ≡ cond b out out)
+        (_≡_ {A = StateAnswer} (record { state = noState; number = n }) (cond b (record { state = noState; number = 0 }) (record { state = noState; number = n }))) × (out ≡ cond b out out)
     by true q = (rw (eqb-true n 0 q), refl)
     by false q = (refl, refl)
 

@@ -11,13 +11,13 @@ use Rattle.layout.specs.Places.{put}
 use Rattle.layout.specs.Layout.{messageLength}
 use Rattle.placing.specs.Sources.{sourcePlaces}
 use Rattle.assembly.specs.Assembly.{chunksOf, pulledOf, fitsState, takeNumber, tookMore, takeAnswer, takenInto, askNumber, askPart}
-use Rattle.assembly.specs.Judged.{isNomsg, Known, takenAnswer}
+use Rattle.assembly.specs.Judged.{isNomsg, Fitting, takenAnswer}
 use Rattle.assembly.specs.declared.State.{State}
 use Rattle.assembly.specs.declared.Judged.{Judged}
-use Rattle.assembly.specs.declared.PieceAnswer.{PieceAnswer}
+use Rattle.assembly.specs.declared.StateAnswer.{StateAnswer}
 
 -- The places that are filled are the pulled ones.
-pub known-places : (s : State) (room : ℕ) (r : Judged) (b : Bool) → Known s room r → b ≡ isNomsg (s .kind) → sourcePlaces b (s .base) (chunksOf s) ≡ pulledOf s
+pub known-places : (s : State) (room : ℕ) (r : Judged) (b : Bool) → Fitting s room r → b ≡ isNomsg (s .kind) → sourcePlaces b (s .base) (chunksOf s) ≡ pulledOf s
 known-places s room r b k e = rw e (sym (k .places))
 
 abbrev withCount : State → ℕ → State
@@ -42,7 +42,7 @@ pub take-whole : (s : State) (room size : ℕ) → record { state = withCount s 
 unfolding takeAnswer
 take-whole s room size = by (eqb (takeNumber s room size) 0)
   where
-    by : (b : Bool) → _≡_ {A = PieceAnswer} (record { state = withCount s (cond b (tookMore s size) s .taken); number = takeNumber s room size }) (record { state = cond b (tookMore s size) s; number = takeNumber s room size })
+    by : (b : Bool) → _≡_ {A = StateAnswer} (record { state = withCount s (cond b (tookMore s size) s .taken); number = takeNumber s room size }) (record { state = cond b (tookMore s size) s; number = takeNumber s room size })
     by true = refl
     by false = refl
 

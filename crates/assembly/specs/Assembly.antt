@@ -14,10 +14,9 @@ use Rattle.layout.specs.Places.{put}
 use Rattle.layout.specs.Layout.{anyAtZero, otherChunks, baseLength, messageLength, placeNumber, basePlaces, paddingPlaces, pulledPlaces}
 use Rattle.layout.specs.declared.Run.{Run}
 use Rattle.assembly.specs.declared.State.{State}
-use Rattle.assembly.specs.declared.StartAnswer.{StartAnswer}
-use Rattle.assembly.specs.declared.PieceAnswer.{PieceAnswer}
+use Rattle.assembly.specs.declared.StateAnswer.{StateAnswer}
 
--- "The base is MSG's inline payload, or the bytes of NOMSG's position-zero chunk. Let B be its length."
+-- B, for the content of a frame and the inline bytes behind it.
 abbrev pub baseOf : Content → List ℕ → ℕ
 baseOf c inline = baseLength (c .kind) (length inline) (c .reads)
 
@@ -26,16 +25,17 @@ unfoldable pub startNumber : Parsed Content → ℕ → ℕ
 startNumber (refused n) room = n
 startNumber (done c inline) room = placeNumber (c .kind) (anyAtZero (c .reads)) (baseOf c inline) (otherChunks (c .reads)) room
 
--- "The state holds the kind, the read segments, base length, buffer length and count; a start leaves its unused places zero."
-abbrev pub startState : Parsed Content → ℕ → State
-startState (refused n) room = record { reads = readListOf []; kind = Msg; base = 0; buffer = 0; taken = 0 }
-startState (done c inline) room = record { reads = readListOf (c .reads); kind = c .kind; base = baseOf c inline; buffer = room; taken = 0 }
-
 -- "a refused start an all-zero state of kind MSG"
 abbrev pub noState : State
-noState = startState (refused 0) 0
+noState = record { reads = readListOf []; kind = Msg; base = 0; buffer = 0; taken = 0 }
 
-unfoldable pub startAnswer : Parsed Content → ℕ → StartAnswer
+-- "The state holds the kind, the read segments, base length, buffer length and count; a start leaves its unused places zero."
+abbrev pub startState : Parsed Content → ℕ → State
+startState (refused n) room = noState
+startState (done c inline) room = record { reads = readListOf (c .reads); kind = c .kind; base = baseOf c inline; buffer = room; taken = 0 }
+
+-- What a start answers.
+unfoldable pub startAnswer : Parsed Content → ℕ → StateAnswer
 startAnswer p room =
     cond (eqb (startNumber p room) 0) (record { state = startState p room; number = 0 }) (record { state = noState; number = startNumber p room })
 
@@ -43,6 +43,7 @@ startAnswer p room =
 unfoldable pub laid : ℕ → List Run → List ℕ → List ℕ → List ℕ
 laid base cs inline out = put (paddingPlaces cs) (replicate (length (paddingPlaces cs)) 0) (put (basePlaces base cs) inline out)
 
+-- The buffer after a start that is accepted.
 abbrev pub startedInto : Parsed Content → List ℕ → List ℕ
 startedInto (refused n) out = out
 startedInto (done c inline) out = laid (baseOf c inline) (otherChunks (c .reads)) inline out
@@ -55,6 +56,7 @@ startInto p out = cond (eqb (startNumber p (length out)) 0) (startedInto p out) 
 abbrev pub readsOf : State → List ReadSegment
 readsOf s = take (s .reads .count) (s .reads .segments)
 
+-- Its chunks elsewhere than at position 0.
 abbrev pub chunksOf : State → List Run
 chunksOf s = otherChunks (readsOf s)
 
@@ -84,7 +86,7 @@ abbrev pub tookMore : State → ℕ → State
 tookMore s size = record { reads = s .reads; kind = s .kind; base = s .base; buffer = s .buffer; taken = s .taken + size }
 
 -- "a refused piece hands back the state it got"
-unfoldable pub takeAnswer : State → ℕ → ℕ → PieceAnswer
+unfoldable pub takeAnswer : State → ℕ → ℕ → StateAnswer
 takeAnswer s room size =
     record { state = cond (eqb (takeNumber s room size) 0) (tookMore s size) s; number = takeNumber s room size }
 

@@ -24,7 +24,7 @@ isNomsg Nomsg = true
 isNomsg (Error e) = false
 
 -- What is known of a state that fits.
-pub record Known (s : State) (room : ℕ) (r : Judged) : Type 0 where
+pub record Fitting (s : State) (room : ℕ) (r : Judged) : Type 0 where
   pub count : s .reads .count ≤ 16
   pub laid : Laid (s .base) (readsOf s)
   pub message : r .message ≡ messageLength (s .base) (chunksOf s)
@@ -35,7 +35,7 @@ pub record Known (s : State) (room : ℕ) (r : Judged) : Type 0 where
 
 pub record Judges (s : State) (room : ℕ) (r : Judged) : Type 0 where
   pub fits : r .fits ≡ fitsState s room
-  pub known : r .fits ≡ true → Known s room r
+  pub known : r .fits ≡ true → Fitting s room r
 
 -- The count behind a piece, and the number.
 abbrev pub takenAnswer : State → ℕ → ℕ → Taken

@@ -1,4 +1,4 @@
-// The reassembly of a call from its inline bytes and pulled read chunks. Public: State, StartAnswer, PieceAnswer, start,
+// The reassembly of a call from its inline bytes and pulled read chunks. Public: State, StateAnswer, start,
 // take_piece, ask, message.
 use header::FrameWalk;
 use header::Kind;
@@ -35,12 +35,8 @@ pub struct State {
     pub taken: usize,
 }
 
-pub struct StartAnswer {
-    pub state: State,
-    pub number: u32,
-}
-
-pub struct PieceAnswer {
+// The state to hand on, and the number.
+pub struct StateAnswer {
     pub state: State,
     pub number: u32,
 }
@@ -70,7 +66,7 @@ fn base_length(kind: Kind, inline: usize, zero: usize) -> usize
 }
 
 // A start that is refused.
-fn not_started(number: u32) -> StartAnswer
+fn not_started(number: u32) -> StateAnswer
     ensures { λ r. ⌜ r ≡ record { state = noState; number = number } ⌝ }
 {
     let z = Segment {
@@ -82,7 +78,7 @@ fn not_started(number: u32) -> StartAnswer
         position: 0,
         target: z,
     };
-    StartAnswer {
+    StateAnswer {
         state: State {
             reads: ReadList {
                 segments: [entry; 16],
@@ -107,7 +103,7 @@ fn lay(frame: &[u8], end: usize, segments: [ReadSegment; 16], n: usize, base: us
 }
 
 // Starts the reassembly of a call.
-pub fn start(frame: &[u8], out: &mut [u8]) -> StartAnswer
+pub fn start(frame: &[u8], out: &mut [u8]) -> StateAnswer
     ensures answer { λ r. ⌜ r ≡ startAnswer (readFrame (now (frame .entry))) (length (now (out .entry))) ⌝ }
     ensures buffer { λ _. ⌜ now (out .exit) ≡ startInto (readFrame (now (frame .entry))) (now (out .entry)) ⌝ }
 {
@@ -127,7 +123,7 @@ pub fn start(frame: &[u8], out: &mut [u8]) -> StartAnswer
         return not_started(layout::measure_refusal(measured));
     };
     lay(frame, end, segments, n, base, out);
-    StartAnswer {
+    StateAnswer {
         state: State {
             reads: ReadList {
                 segments,
@@ -230,14 +226,14 @@ pub fn put_piece(s: State, piece: &[u8], out: &mut [u8]) -> Taken
 }
 
 // Takes a piece of the pulled bytes, which come in list order.
-pub fn take_piece(s: State, piece: &[u8], out: &mut [u8]) -> PieceAnswer
+pub fn take_piece(s: State, piece: &[u8], out: &mut [u8]) -> StateAnswer
     ensures answer { λ r. ⌜ r ≡ takeAnswer s (length (now (out .entry))) (length (now (piece .entry))) ⌝ }
     ensures buffer { λ _. ⌜ now (out .exit) ≡ takenInto s (now (piece .entry)) (now (out .entry)) ⌝ }
 {
     let done = put_piece(s, piece, out);
     let reads = s.reads;
     let kind = s.kind;
-    PieceAnswer {
+    StateAnswer {
         state: State {
             reads,
             kind,

@@ -16,7 +16,8 @@ use Rattle.header.specs.declared.Kind.{Kind}
 use Rattle.header.specs.declared.Kind.the-variants.{Msg, Nomsg, Error}
 use Rattle.header.proofs.Ends.{nomsg-ends}
 use Rattle.layout.specs.Places.{from, put}
-use Rattle.layout.specs.Layout.{kindFits, anyAtZero, otherChunks, baseLength, roundedUp, totalLength, stands, places, gaps, paddings, paddingPlaces, basePlaces, messageLength, pulledPlaces}
+use Rattle.layout.specs.Layout.{kindFits, anyAtZero, otherChunks, baseLength, roundedUp, stands, places, gaps, paddings, paddingPlaces, basePlaces, messageLength, pulledPlaces}
+use Rattle.layout.specs.Walks.{totalLength}
 use Rattle.layout.specs.declared.Run.{Run}
 use Rattle.layout.proofs.Putting.{put-none, length-places}
 use Rattle.placing.proofs.Laws.{Placed, all-placed, length-base}

@@ -13,7 +13,7 @@ use Rattle.header.specs.Content.{Content}
 use Rattle.header.specs.Frame.{readFrame}
 use Rattle.layout.specs.Layout.{anyAtZero, otherChunks}
 use Rattle.assembly.specs.Assembly.{baseOf, startNumber, startState, noState, startAnswer, startedInto, startInto}
-use Rattle.assembly.specs.declared.StartAnswer.{StartAnswer}
+use Rattle.assembly.specs.declared.StateAnswer.{StateAnswer}
 use Rattle.assembly.proofs.Starting.{Passed, place-passed}
 use Rattle.claims.specs.RoundTrip.{AllBytes}
 use Rattle.claims.specs.Tally.{Call, tally, recut, startThen, cutThen, CutOf}
@@ -27,7 +27,7 @@ number-zero : (p : Parsed Content) (room : ℕ) → startAnswer p room .number �
 unfolding startAnswer
 number-zero p room e = by (eqb (startNumber p room) 0) refl e
   where
-    by : (b : Bool) → eqb (startNumber p room) 0 ≡ b → cond {A = StartAnswer} b (record { state = startState p room; number = 0 }) (record { state = noState; number = startNumber p room }) .number ≡ 0 → startNumber p room ≡ 0
+    by : (b : Bool) → eqb (startNumber p room) 0 ≡ b → cond {A = StateAnswer} b (record { state = startState p room; number = 0 }) (record { state = noState; number = startNumber p room }) .number ≡ 0 → startNumber p room ≡ 0
     by true q z = eqb-true (startNumber p room) 0 q
     by false q z = z
 

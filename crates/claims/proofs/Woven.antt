@@ -8,7 +8,8 @@ use lib.ListN.{length, take, drop, replicate, length-append, length-drop, length
 use lib.Seq.{take-at, drop-at, drop-drop, length-take-le, sets-eq}
 use Rattle.wire.specs.Wire.{stored}
 use Rattle.layout.specs.Places.{from, put}
-use Rattle.layout.specs.Layout.{roundedUp, roundedTotal, totalLength, places, gaps, paddings}
+use Rattle.layout.specs.Layout.{roundedUp, roundedTotal, places, gaps, paddings}
+use Rattle.layout.specs.Walks.{totalLength}
 use Rattle.layout.specs.declared.Run.{Run}
 use Rattle.layout.proofs.Putting.{put-from, length-from, from-add, length-put}
 use Rattle.layout.proofs.Stood.{rounded-most}

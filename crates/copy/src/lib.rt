@@ -1,7 +1,7 @@
 // The copying leaf: bytes into a part of a buffer, in one go. Internal to the library.
 ghost use mathlib.Core.Path.{_≡_};
 ghost use mathlib.Core.List.{_++_};
-ghost use Prim.Native.Nat.{_+_, _≤_, _<_};
+ghost use Prim.Native.Nat.{_+_, _≤_};
 ghost use lib.ListN.{length, drop, replicate};
 ghost use Rattle.wire.specs.Wire.{stored};
 
@@ -26,16 +26,6 @@ fn copy_block(out: &mut [u8], src: &[u8])
     }
 }
 
-fn at_most(n: usize, most: usize) -> usize
-    requires { ⌜ (0 < n) × (0 < most) ⌝ }
-    ensures { λ r. ⌜ (r ≤ n) × (r ≤ most) × (0 < r) ⌝ }
-{
-    if n < most {
-        return n;
-    }
-    most
-}
-
 // Copies `src` to the front of a buffer.
 fn copy_front(out: &mut [u8], src: &[u8])
     requires { ⌜ length (now src) ≤ length (now out) ⌝ }
@@ -44,7 +34,7 @@ fn copy_front(out: &mut [u8], src: &[u8])
     let n = src.len();
     let mut i = 0;
     while i < n {
-        let m = at_most(n - i, BLOCK_BYTES);
+        let m = wire::least(n - i, BLOCK_BYTES);
         let e = i + m;
         copy_block(&mut out[i..], &src[i..e]);
         i = e;

@@ -9,7 +9,8 @@ use lib.ListN.{length, drop, set, length-set, length-append, drop-of-length-le}
 use lib.Seq.{drop-at, drop-append-add}
 use Rattle.wire.specs.Wire.{stored}
 use Rattle.layout.specs.Places.{from, put}
-use Rattle.layout.specs.Layout.{places, totalLength}
+use Rattle.layout.specs.Layout.{places}
+use Rattle.layout.specs.Walks.{totalLength}
 use Rattle.layout.specs.declared.Run.{Run}
 
 -- The buffer keeps its length.

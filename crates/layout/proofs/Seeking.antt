@@ -12,8 +12,8 @@ use borrow.Author.Tests.{leb-true}
 use Rattle.wire.specs.declared.ReadSegment.{ReadSegment}
 use Rattle.wire.proofs.Laws.{both-hold}
 use Rattle.layout.specs.Places.{from}
-use Rattle.layout.specs.Layout.{run, otherChunks, roundedUp, roundedTotal, totalLength, stands, places, gaps, basePlaces, messageLength}
-use Rattle.layout.specs.Walks.{joinedRun, endedLength, remaining, Seeks}
+use Rattle.layout.specs.Layout.{run, otherChunks, roundedUp, roundedTotal, stands, places, gaps, basePlaces, messageLength}
+use Rattle.layout.specs.Walks.{totalLength, joinedRun, endedLength, remaining, Seeks}
 use Rattle.layout.specs.declared.Run.{Run}
 use Rattle.layout.proofs.Remaining.{Walk, Headed, Step, goes, opens, ends, step, at-position, at-first, Last, nothing, itself, last}
 use Rattle.layout.proofs.Stood.{rounded-none}

@@ -2,7 +2,6 @@
 use Prim.Native.Nat.{ℕ, _+_, _-_, _*_, _/_, _%_}
 use mathlib.Core.Bool.{Bool, true, false, cond, not, _&&_, _||_}
 use mathlib.Core.List.{List, [], _∷_, _++_}
-use lib.ListN.{length}
 use lib.Dec.{ltb, leb, eqb}
 use Rattle.wire.specs.Answers.{check}
 use Rattle.wire.specs.declared.ReadSegment.{ReadSegment}
@@ -11,19 +10,31 @@ use Rattle.header.specs.declared.Kind.the-variants.{Msg, Nomsg, Error}
 use Rattle.layout.specs.Places.{from}
 use Rattle.layout.specs.declared.Run.{Run}
 
--- So many places from one on; a chunk is a run, at its position and of its total length.
+-- A run of places: where it begins, and how many they are. A chunk is one, at its position and of its total length.
 abbrev pub run : ℕ → ℕ → Run
 run at length = record { at = at; length = length }
 
--- "for MSG with any segment at position 0, and for NOMSG with none there"
+-- Whether any segment stands at position 0.
 unfoldable pub anyAtZero : List ReadSegment → Bool
 anyAtZero [] = false
 anyAtZero (x ∷ xs) = eqb (x .position) 0 || anyAtZero xs
+
+-- "At a start, 12 is given for an ERROR header, for MSG with any segment at position 0, and for NOMSG with none there."
+abbrev pub kindFits : Kind → Bool → Bool
+kindFits Msg atZero = not atZero
+kindFits Nomsg atZero = atZero
+kindFits (Error e) atZero = false
 
 -- "the bytes of NOMSG's position-zero chunk": how many they are.
 unfoldable pub zeroLength : List ReadSegment → ℕ
 zeroLength [] = 0
 zeroLength (x ∷ xs) = cond (eqb (x .position) 0) (x .target .length) 0 + zeroLength xs
+
+-- "The base is MSG's inline payload, or the bytes of NOMSG's position-zero chunk. Let B be its length."
+abbrev pub baseLength : Kind → ℕ → List ReadSegment → ℕ
+baseLength Msg inline reads = inline
+baseLength Nomsg inline reads = zeroLength reads
+baseLength (Error e) inline reads = inline
 
 -- "Read segments with the same position form one chunk.": bytes at a position join the chunk that stands there. Chunks stand by position.
 unfoldable pub joinChunk : ℕ → ℕ → List Run → List Run
@@ -46,23 +57,6 @@ roundedUp l = (l + 3) / 4 * 4
 unfoldable pub roundedTotal : List Run → ℕ
 roundedTotal [] = 0
 roundedTotal (c ∷ cs) = roundedUp (c .length) + roundedTotal cs
-
--- L1 + L2 + ..
-unfoldable pub totalLength : List Run → ℕ
-totalLength [] = 0
-totalLength (c ∷ cs) = c .length + totalLength cs
-
--- "At a start, 12 is given for an ERROR header, for MSG with any segment at position 0, and for NOMSG with none there."
-abbrev pub kindFits : Kind → Bool → Bool
-kindFits Msg atZero = not atZero
-kindFits Nomsg atZero = atZero
-kindFits (Error e) atZero = false
-
--- "The base is MSG's inline payload, or the bytes of NOMSG's position-zero chunk. Let B be its length."
-abbrev pub baseLength : Kind → ℕ → List ReadSegment → ℕ
-baseLength Msg inline reads = inline
-baseLength Nomsg inline reads = zeroLength reads
-baseLength (Error e) inline reads = inline
 
 -- "Chunk i must stand at or behind the end of the former one: pi is at least p(i-1) + R(i-1)." "Take from pi all R of earlier chunks; the rest is at most B."
 -- `end` is where the former chunk ends, `earlier` all R of earlier chunks.

@@ -16,6 +16,11 @@ use Rattle.layout.specs.declared.Standing.the-variants.{Stands, Overlaps
 use Rattle.layout.specs.declared.Measured.{Measured}
 use Rattle.layout.specs.declared.Measured.the-variants.{Holds, Refused}
 
+-- The bytes of chunks together: L1 + L2 + ..
+unfoldable pub totalLength : List Run → ℕ
+totalLength [] = 0
+totalLength (c ∷ cs) = c .length + totalLength cs
+
 -- The bytes of all segments.
 unfoldable pub readLength : List ReadSegment → ℕ
 readLength [] = 0

@@ -10,8 +10,6 @@ ghost use Rattle.lists.specs.Lists.{positionsNumber};
 ghost use Rattle.layout.specs.Layout.{otherChunks, roundedUp, kindFits};
 ghost use Rattle.layout.specs.Walks.{sumsWith, sumsOf, endedLength, joinedRun, Near, standingOf, measuredOf, measuredNumber};
 
-// "kind and lists do not fit"
-pub const KIND_AND_LISTS: u32 = 12;
 // "base length no multiple of 4"
 pub const BASE_UNALIGNED: u32 = 13;
 // "a chunk's position overlaps or lies past the base"
@@ -56,7 +54,7 @@ pub fn wide(x: u32) -> usize
     x as usize
 }
 
-// A length, rounded up to a multiple of 4.
+// A length, rounded up to a multiple of 4. A read list has less than 16 times 2^32 bytes; the bound leaves room for rounding.
 pub fn rounded(length: usize) -> usize
     requires { ⌜ length ≤ 68719476800 ⌝ }
     ensures { λ r. ⌜ (r ≡ roundedUp length) × (length ≤ r) × (r ≤ length + 3) ⌝ }
@@ -111,8 +109,10 @@ pub fn sums_of(segments: [ReadSegment; 16], n: usize) -> Sums
     s
 }
 
-// In a walk over read segments, the chunk at hand is a run: where it stands, and its bytes so far. Before the first segment
-// elsewhere than at position 0 it has none, at 0. So many bytes has the chunk that a segment ends; 0 if it ends none.
+// A walk over read segments has a chunk at hand, as a run: where it stands, and its bytes so far. Before the first segment
+// elsewhere than at position 0 that is a run of no bytes at 0.
+
+// How many bytes the chunk has that a segment ends; 0 if it ends none.
 pub fn ended(w: Run, x: ReadSegment) -> usize
     ensures { λ r. ⌜ r ≡ endedLength w x ⌝ }
 {
@@ -201,7 +201,7 @@ pub fn measure(
     ensures { λ r. ⌜ r ≡ measuredOf kind base «any_zero» (otherChunks (take n segments)) room ⌝ }
 {
     if !kind_fits(kind, any_zero) {
-        return Measured::Refused(KIND_AND_LISTS);
+        return Measured::Refused(wire::KIND_AND_LISTS);
     }
     if base % UNIT_BYTES != 0 {
         return Measured::Refused(BASE_UNALIGNED);

@@ -13,8 +13,8 @@ use Rattle.wire.specs.Wire.{stored}
 use Rattle.wire.specs.declared.ReadSegment.{ReadSegment}
 use Rattle.wire.proofs.Laws.{both-hold}
 use Rattle.layout.specs.Places.{from, put}
-use Rattle.layout.specs.Layout.{run, otherChunks, roundedUp, roundedTotal, totalLength, stands, places, gaps, paddings, paddingPlaces, basePlaces, messageLength}
-use Rattle.layout.specs.Walks.{joinedRun, endedLength, remaining, Seeks}
+use Rattle.layout.specs.Layout.{run, otherChunks, roundedUp, roundedTotal, stands, places, gaps, paddings, paddingPlaces, basePlaces, messageLength}
+use Rattle.layout.specs.Walks.{totalLength, joinedRun, endedLength, remaining, Seeks}
 use Rattle.layout.specs.declared.Run.{Run}
 use Rattle.layout.proofs.Putting.{put-append, put-first, put-from, put-run, put-none, length-from, length-places}
 use Rattle.layout.proofs.Remaining.{Walk, headed, Step, goes, opens, ends, step, at-first, Last, nothing, itself, last}

@@ -3,20 +3,12 @@ use layout::Run;
 use wire::ReadSegment;
 ghost use mathlib.Core.Path.{_≡_};
 ghost use mathlib.Core.Bool.{cond};
-ghost use Prim.Native.Nat.{_+_, _-_, _≤_, min};
+ghost use Prim.Native.Nat.{_+_, _-_, _≤_};
 ghost use lib.ListN.{length, take, drop, replicate};
 ghost use Rattle.layout.specs.Places.{put};
-ghost use Rattle.layout.specs.Layout.{otherChunks, totalLength, messageLength, places, basePlaces, paddingPlaces};
+ghost use Rattle.layout.specs.Layout.{otherChunks, messageLength, places, basePlaces, paddingPlaces};
+ghost use Rattle.layout.specs.Walks.{totalLength};
 ghost use Rattle.placing.specs.Sources.{sourcePlaces, Laid};
-
-fn least(x: usize, y: usize) -> usize
-    ensures { λ r. ⌜ r ≡ min x y ⌝ }
-{
-    if x < y {
-        return x;
-    }
-    y
-}
 
 // How far it is from one place up to another; 0 if that is not ahead.
 fn ahead(from: usize, to: usize) -> usize
@@ -52,7 +44,7 @@ pub fn place_base(
         let position = layout::wide(x.position);
         earlier += layout::rounded(layout::ended(w, x));
         let here = count + j + earlier;
-        let e = j + least(ahead(here, position), size - j);
+        let e = j + wire::least(ahead(here, position), size - j);
         copy::copy_at(out, here, &piece[j..e]);
         j = e;
         if j == size {
@@ -87,9 +79,9 @@ pub fn place_chunks(
     for i in 0..n {
         let x = segments[i];
         let length = layout::ended(w, x);
-        let m = least(ahead(left, length), size - j);
+        let m = wire::least(ahead(left, length), size - j);
         let e = j + m;
-        copy::copy_at(out, w.at + least(left, length), &piece[j..e]);
+        copy::copy_at(out, w.at + wire::least(left, length), &piece[j..e]);
         j = e;
         if j == size {
             return;
@@ -133,8 +125,15 @@ pub fn place(
     requires { ⌜ (n ≤ 16) × Laid base (take n segments) × (messageLength base (otherChunks (take n segments)) ≤ length (now out)) × (count + length (now piece) ≤ length (sourcePlaces based base (otherChunks (take n segments)))) ⌝ }
     ensures { λ _. ⌜ now (out .exit) ≡ put (drop count (sourcePlaces based base (otherChunks (take n segments)))) (now (piece .entry)) (now (out .entry)) ⌝ }
 {
-    let m = least(to_come(based, base, count), piece.len());
-    place_base(out, &piece[0..m], segments, n, base, least(count, base));
+    let m = wire::least(to_come(based, base, count), piece.len());
+    place_base(
+        out,
+        &piece[0..m],
+        segments,
+        n,
+        base,
+        wire::least(count, base),
+    );
     place_chunks(
         out,
         &piece[m..],

@@ -16,7 +16,7 @@ use Rattle.layout.specs.Layout.{placeNumber}
 use Rattle.layout.specs.declared.Run.{Run}
 use Rattle.assembly.specs.Assembly.{startNumber, startState, noState, startAnswer, takeNumber, tookMore, takeAnswer, takenInto, askNumber, askPart}
 use Rattle.assembly.specs.declared.State.{State}
-use Rattle.assembly.specs.declared.StartAnswer.{StartAnswer}
+use Rattle.assembly.specs.declared.StateAnswer.{StateAnswer}
 use Rattle.port.specs.Flat.{kindNumber}
 use Rattle.port.specs.FlatState.{stateKind, flatStateOf, stateOfFlat, flatTaken, flatTakenInto, flatAsked, flatMessage}
 use Rattle.port.specs.declared.Known.the-variants.{Is}
@@ -47,7 +47,7 @@ pub start-crosses : (p : Parsed Content) (room : ℕ) → Crosses (startAnswer p
 unfolding startAnswer stateKind
 start-crosses p room = by (eqb (startNumber p room) 0) (λ e. accepted-crosses p room (eqb-true _ _ e))
   where
-    by : (b : Bool) → (b ≡ true → Crosses (startState p room)) → Crosses (cond {A = StartAnswer} b (record { state = startState p room; number = 0 }) (record { state = noState; number = startNumber p room }) .state)
+    by : (b : Bool) → (b ≡ true → Crosses (startState p room)) → Crosses (cond {A = StateAnswer} b (record { state = startState p room; number = 0 }) (record { state = noState; number = startNumber p room }) .state)
     by true h = h refl
     by false h = refl
 

@@ -8,7 +8,7 @@ use Rattle.header.specs.declared.Kind.{Kind}
 use Rattle.header.specs.declared.Kind.the-variants.{Msg, Nomsg}
 use Rattle.assembly.specs.Assembly.{takeAnswer, takenInto, askNumber, askPart}
 use Rattle.assembly.specs.declared.State.{State}
-use Rattle.assembly.specs.declared.StartAnswer.{StartAnswer}
+use Rattle.assembly.specs.declared.StateAnswer.{StateAnswer}
 use Rattle.port.specs.Flat.{kindNumber}
 use Rattle.port.specs.declared.FlatPart.{FlatPart}
 use Rattle.port.specs.declared.FlatState.{FlatState}
@@ -32,7 +32,7 @@ flatStateOf s = record {
 }
 
 -- What a start answers, in the flat struct.
-unfoldable pub flatStarted : StartAnswer → FlatStateAnswer
+unfoldable pub flatStarted : StateAnswer → FlatStateAnswer
 flatStarted a = record { state = flatStateOf (a .state); number = a .number }
 
 -- The state that a flat struct holds, with its kind.

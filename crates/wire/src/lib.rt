@@ -1,7 +1,7 @@
 // Words and segments, of which every part of a transport header is made, read from a frame and written into a buffer; and what
 // every writer answers. The types are public, the calls internal to the library: they ask that the bytes are there.
 ghost use mathlib.Core.Path.{_≡_};
-ghost use Prim.Native.Nat.{_+_, _*_, _≤_};
+ghost use Prim.Native.Nat.{_+_, _*_, _≤_, min};
 ghost use lib.ListN.{length};
 ghost use Rattle.wire.specs.Wire.{joinBytes, wordAt, wordOf, refusalOf, segmentAt, readSegmentAt, stored, wordBytes, segmentBytes, readSegmentBytes};
 
@@ -16,6 +16,8 @@ pub const READ_SEGMENT_BYTES: usize = 20;
 
 // "frame ends inside a field that must be there"
 pub const ENDS_INSIDE_FIELD: u32 = 5;
+// "kind and lists do not fit"
+pub const KIND_AND_LISTS: u32 = 12;
 // "output buffer too short"
 pub const BUFFER_SHORT: u32 = 16;
 // "bad argument"
@@ -149,4 +151,14 @@ pub fn put_read_segment(out: &mut [u8], k: usize, x: ReadSegment)
     put_word(out, k, x.position);
     let target = x.target;
     put_segment(out, k + 4, target);
+}
+
+// The smaller of two numbers.
+pub fn least(x: usize, y: usize) -> usize
+    ensures { λ r. ⌜ r ≡ min x y ⌝ }
+{
+    if x < y {
+        return x;
+    }
+    y
 }

@@ -18,8 +18,6 @@ ghost use Rattle.header.specs.Content.{contentOf, runs, replyOf};
 ghost use Rattle.writer.specs.Bytes.{chunkBytes, readListBytes, writeListBytes, replyBytes, errorBytes, fixedBytes, procedureOf, restBytes, partsOf, headerBytes};
 ghost use Rattle.writer.specs.Write.{bareIfError, total, withinLimits, writeNumber, writeAnswer, writtenInto};
 
-// "kind and lists do not fit"
-pub const KIND_AND_LISTS: u32 = 12;
 // "a header to be written is longer than 1,024 bytes"
 pub const HEADER_LONG: u32 = 21;
 
@@ -140,7 +138,7 @@ fn write_number(h: Header, room: usize) -> u32
     let counts = writes.counts;
     let segments = reads.segments;
     if !bare_if_error(kind, reads.count, writes.chunks, reply.present) {
-        return KIND_AND_LISTS;
+        return wire::KIND_AND_LISTS;
     }
     if !within_limits(
         reads.count,

@@ -48,11 +48,11 @@ abbrev μ-loop : tie.MeasureT-loop
 loop-holds : tie.Need-loop-holds Inv-loop μ-loop
 loop-holds c = (search needs, search needs, search needs, search needs, refl)
 
-sub-at-most : tie.Need-sub-at-most Inv-loop μ-loop
-sub-at-most c = search needs
+sub-least : tie.Need-sub-least Inv-loop μ-loop
+sub-least c = search needs
 
-at-most-requires : tie.Need-at-most-requires Inv-loop μ-loop
-at-most-requires c κs = search needs
+least-requires : tie.Need-least-requires Inv-loop μ-loop
+least-requires c κs = search needs
 
 add-e : tie.Need-add-e Inv-loop μ-loop
 add-e c = search needs
@@ -84,7 +84,7 @@ loop-less c = search needs
 loop-again : tie.Need-loop-again Inv-loop μ-loop
 loop-again c =
     let l = c .before .before .before .before .before .before .before .loop in
-    let m = c .before .before .before .before .before .at-most .result in
+    let m = c .before .before .before .before .before .least .result in
     let a = c .before .before .before .before .before .before .before .before .before .before .args in (
       search needs,
       search needs,
@@ -114,8 +114,8 @@ copy-front-spec =
     Inv-loop
     μ-loop
     loop-holds
-    sub-at-most
-    at-most-requires
+    sub-least
+    least-requires
     add-e
     sub-copy-block
     part-copy-block-start
