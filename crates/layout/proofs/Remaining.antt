@@ -22,7 +22,7 @@ use Rattle.layout.proofs.Joins.{Order, less, same, more, order, join-le
 -- What a step over a segment answers.
 module _ (w : Run) (x : ReadSegment) (p l : ℕ) (here : p ≡ x .position) (size : l ≡ x .target .length) where
   pub near-words : p < 4294967296 → l < 4294967296 → Near x
-  near-words a b = record { position = rw here at a; length = rw size at b }
+  near-words a b = record { near-position = rw here at a; near-length = rw size at b }
 
   pub joined-zero : p ≡ 0 → w ≡ joinedRun w x
   unfolding joinedRun
@@ -204,6 +204,15 @@ module _ (w : Run) (x : ReadSegment) (xs : List ReadSegment) (k : Walk w (x ∷ 
           let n = eqb-false (w .at) (x .position) e in
           ends (sym (ended-all w x n)) (open-next n (eqb-false (w .at) 0 g)) (head n)
 
+-- What ends was at hand.
+ended-within-hand : (w : Run) (x : ReadSegment) (xs : List ReadSegment) → Walk w (x ∷ xs) → endedLength w x ≤ w .length
+ended-within-hand w x xs k = by (step w x xs k)
+  where
+    by : Step w x xs → endedLength w x ≤ w .length
+    by (goes a b c) = rw b (omega arith)
+    by (opens a b c h) = rw b (omega arith)
+    by (ends b c h) = rw b (omega arith)
+
 -- No number on the way is too large: behind i segments, with so many rounded bytes of earlier chunks.
 pub record Low (i earlier : ℕ) (w : Run) : Type 0 where
   pub sum : earlier + w .length ≤ i * 4294967300
@@ -217,30 +226,44 @@ pub record Along (reads : List ReadSegment) (i earlier : ℕ) (w : Run) : Type 0
 pub along-start : (reads : List ReadSegment) → positionsNumber 0 reads 0 ≡ 0 → Along reads 0 0 (run 0 0)
 along-start reads e = record { walk = walk-start reads e; low = record { sum = omega arith; at = omega arith } }
 
-module _ (n i : ℕ) (a : List ReadSegment) (full : length a ≡ 16) (few : n ≤ 16) where
-  pub next-here : i < n → drop i (take n a) ≡ getD a i zeroReadSegment ∷ drop (i + 1) (take n a)
-  next-here h = rw (add-one, ← (getD-take n a i zeroReadSegment h)) (drop-cons (take n a) i zeroReadSegment (rw (length-take-le n a (omega arith)) h))
+-- What is known at segment i of an array's first n, and behind the last.
+pub record Here (n i earlier : ℕ) (a : List ReadSegment) (w : Run) : Type 0 where
+  pub rest : drop i (take n a) ≡ getD a i zeroReadSegment ∷ drop (i + 1) (take n a)
+  pub walk : Walk w (getD a i zeroReadSegment ∷ drop (i + 1) (take n a))
+  pub ended-most : endedLength w (getD a i zeroReadSegment) ≤ w .length
+  pub sum : earlier + w .length ≤ i * 4294967300
+  pub low : w .at ≤ 4294967295
+  pub onward : (size : ℕ) (r : Run) → size ≤ endedLength w (getD a i zeroReadSegment) + 3 → r ≡ joinedRun w (getD a i zeroReadSegment) → Near (getD a i zeroReadSegment) → Along (take n a) (i + 1) (earlier + size) r
 
-  pub no-more : i ≡ n → drop i (take n a) ≡ []
-  no-more e = ap (λ (m : ℕ). drop m (take n a)) (e ∙ sym (length-take-le n a (omega arith))) ∙ drop-length (take n a)
+pub record Behind (n i earlier : ℕ) (a : List ReadSegment) (w : Run) : Type 0 where
+  pub none : drop i (take n a) ≡ []
+  pub walk : Walk w []
+  pub sum : earlier + w .length ≤ i * 4294967300
+  pub low : w .at ≤ 4294967295
 
-module _ (reads : List ReadSegment) (i earlier : ℕ) (w : Run) (x : ReadSegment) (rest : drop i reads ≡ x ∷ drop (i + 1) reads) (k : Along reads i earlier w) where
-  pub walk-here : Walk w (x ∷ drop (i + 1) reads)
-  walk-here = rw rest at (k .walk)
+module _ (n i earlier : ℕ) (a : List ReadSegment) (w : Run) (full : length a ≡ 16) (few : n ≤ 16) (k : Along (take n a) i earlier w) where
+  pub here : i < n → Here n i earlier a w
+  here h =
+      let x = getD a i zeroReadSegment in
+      let xs = drop (i + 1) (take n a) in
+      let rest : drop i (take n a) ≡ x ∷ xs = rw (add-one, ← (getD-take n a i zeroReadSegment h)) (drop-cons (take n a) i zeroReadSegment (rw (length-take-le n a (omega arith)) h)) in
+      let walk = rw rest at (k .walk) in
+      let more = length-next w x xs walk in
+      record {
+        rest = rest;
+        walk = walk;
+        ended-most = ended-within-hand w x xs walk;
+        sum = k .low .sum;
+        low = k .low .at;
+        onward = λ size r most e near. rw e
+            (record {
+              walk = walk-next w x xs walk;
+              low = record { sum = omega (arith, k .low .sum, near .near-length); at = rw (at-position w x xs walk) (let p = near .near-position in omega arith) };
+            });
+      }
 
-  pub ended-most : endedLength w x ≤ w .length
-  ended-most = by (step w x (drop (i + 1) reads) walk-here)
-    where
-      by : Step w x (drop (i + 1) reads) → endedLength w x ≤ w .length
-      by (goes a b c) = rw b (omega arith)
-      by (opens a b c h) = rw b (omega arith)
-      by (ends b c h) = rw b (omega arith)
-
-  pub along-next : (size : ℕ) (r : Run) → size ≤ endedLength w x + 3 → r ≡ joinedRun w x → Near x → Along reads (i + 1) (earlier + size) r
-  along-next size r most e near =
-      let more = length-next w x (drop (i + 1) reads) walk-here in
-      rw e
-      (record {
-        walk = walk-next w x (drop (i + 1) reads) walk-here;
-        low = record { sum = omega (arith, k .low .sum, near .length); at = rw (at-position w x (drop (i + 1) reads) walk-here) (let p = near .position in omega arith) };
-      })
+  pub behind-all : n ≤ i → i ≤ n → Behind n i earlier a w
+  behind-all ge le =
+      let all : i ≡ n = omega arith in
+      let none : drop i (take n a) ≡ [] = ap (λ (m : ℕ). drop m (take n a)) (all ∙ sym (length-take-le n a (omega arith))) ∙ drop-length (take n a) in
+      record { none = none; walk = rw none at (k .walk); sum = k .low .sum; low = k .low .at }

@@ -57,8 +57,8 @@ Above q (c ∷ cs) = (q < c .at) × Above q cs
 
 -- Position and length of a segment are words.
 pub record Near (x : ReadSegment) : Type 0 where
-  pub position : x .position < 4294967296
-  pub length : x .target .length < 4294967296
+  pub near-position : x .position < 4294967296
+  pub near-length : x .target .length < 4294967296
 
 -- The chunks stand, with the sum of their rounded lengths.
 abbrev pub standingOf : ℕ → List Run → Standing

@@ -10,7 +10,7 @@ use Rattle.layout.specs.Layout.{otherChunks}
 use Rattle.placing.proofs.Laws.{Padded, padded-start, padded-next, padded-last, ended-within, last-within}
 use Rattle.layout.proofs.Putting.{length-put}
 use Rattle.layout.proofs.Stood.{rounded-most}
-use Rattle.layout.proofs.Remaining.{Along, along-start, next-here, no-more, walk-here, ended-most, along-next}
+use Rattle.layout.proofs.Remaining.{Along, along-start, here, behind-all}
 use Rattle.placing.proofs.clear_paddings.Statement.{statement}
 use Rattle.placing.proofs.clear_paddings.Tie as tie
 
@@ -33,77 +33,38 @@ ended-requires : tie.Need-ended-requires Inv-loop μ-loop
 ended-requires c κs = search needs
 
 add-clear-at : tie.Need-add-clear-at Inv-loop μ-loop
-add-clear-at c = let a = c .before .before .before .before .before .before .before .args in
-    let few = c .before .before .before .before .before .before .before .pre .0 in
-    let laid = c .before .before .before .before .before .before .before .pre .1 in
-    let room = c .before .before .before .before .before .before .before .pre .2 in
-    let full : length (a .t2) ≡ 16 = search needs in
+add-clear-at c =
+    let a = c .before .before .before .before .before .before .before .args in
     let at = c .before .before .before .before .before .loop in
-    let reads = take (a .n) (a .t2) in
-    let rest = next-here (a .n) (at .i) (a .t2) full few (c .before .before .before .before .loop-test .taken) in
-    let along = at .inv .1 in
-    let walk = walk-here reads (at .i) _ (at .w) _ rest along in
-    let most = ended-most reads (at .i) _ (at .w) _ rest along in
-    let sum = along .low .sum in
-    let low = along .low .at in
-    let same = at .inv .2 in
+    let h = here (a .n) (at .i) _ (a .t2) (at .w) (search needs) (c .before .before .before .before .before .before .before .pre .0) (at .inv .1) (c .before .before .before .before .loop-test .taken) in
     let e = c .before .before .ended .ensures in
     omega arith
 
 padding-requires : tie.Need-padding-requires Inv-loop μ-loop
-padding-requires c κs = let a = c .before .before .before .before .before .before .before .args in
-    let few = c .before .before .before .before .before .before .before .pre .0 in
-    let laid = c .before .before .before .before .before .before .before .pre .1 in
-    let room = c .before .before .before .before .before .before .before .pre .2 in
-    let full : length (a .t2) ≡ 16 = search needs in
+padding-requires c κs =
+    let a = c .before .before .before .before .before .before .before .args in
     let at = c .before .before .before .before .before .loop in
-    let reads = take (a .n) (a .t2) in
-    let rest = next-here (a .n) (at .i) (a .t2) full few (c .before .before .before .before .loop-test .taken) in
-    let along = at .inv .1 in
-    let walk = walk-here reads (at .i) _ (at .w) _ rest along in
-    let most = ended-most reads (at .i) _ (at .w) _ rest along in
-    let sum = along .low .sum in
-    let low = along .low .at in
-    let same = at .inv .2 in
+    let h = here (a .n) (at .i) _ (a .t2) (at .w) (search needs) (c .before .before .before .before .before .before .before .pre .0) (at .inv .1) (c .before .before .before .before .loop-test .taken) in
     rw (c .before .before .ended .ensures) (omega arith)
 
 clear-at-requires : tie.Need-clear-at-requires Inv-loop μ-loop
-clear-at-requires c κs = let a = c .before .before .before .before .before .before .before .before .args in
-    let few = c .before .before .before .before .before .before .before .before .pre .0 in
+clear-at-requires c κs =
+    let a = c .before .before .before .before .before .before .before .before .args in
     let laid = c .before .before .before .before .before .before .before .before .pre .1 in
-    let room = c .before .before .before .before .before .before .before .before .pre .2 in
-    let full : length (a .t2) ≡ 16 = search needs in
     let at = c .before .before .before .before .before .before .loop in
-    let reads = take (a .n) (a .t2) in
-    let rest = next-here (a .n) (at .i) (a .t2) full few (c .before .before .before .before .before .loop-test .taken) in
-    let along = at .inv .1 in
-    let walk = walk-here reads (at .i) _ (at .w) _ rest along in
-    let most = ended-most reads (at .i) _ (at .w) _ rest along in
-    let sum = along .low .sum in
-    let low = along .low .at in
-    let same = at .inv .2 in
-    let padded = rw rest at (at .inv .3) in
+    let h = here (a .n) (at .i) _ (a .t2) (at .w) (search needs) (c .before .before .before .before .before .before .before .before .pre .0) (at .inv .1) (c .before .before .before .before .before .loop-test .taken) in
+    let padded = rw (h .rest) at (at .inv .3) in
     let e = c .before .before .before .ended .ensures in
     let pad = rw e at (c .padding .ensures .0) in
-    let within = ended-within (a .base) _ (at .w) (laid .stand) _ _ walk (padded .parts) in
+    let within = ended-within (a .base) _ (at .w) (laid .stand) _ _ (h .walk) (padded .parts) in
     let up = rounded-most (endedLength (at .w) (getD (a .t2) (at .i) zeroReadSegment)) .0 in
     omega arith
 
 joined-requires : tie.Need-joined-requires Inv-loop μ-loop
-joined-requires c κs = let a = c .before .before .before .before .before .before .before .before .before .before .before .args in
-    let few = c .before .before .before .before .before .before .before .before .before .before .before .pre .0 in
-    let laid = c .before .before .before .before .before .before .before .before .before .before .before .pre .1 in
-    let room = c .before .before .before .before .before .before .before .before .before .before .before .pre .2 in
-    let full : length (a .t2) ≡ 16 = search needs in
+joined-requires c κs =
+    let a = c .before .before .before .before .before .before .before .before .before .before .before .args in
     let at = c .before .before .before .before .before .before .before .before .before .loop in
-    let reads = take (a .n) (a .t2) in
-    let rest = next-here (a .n) (at .i) (a .t2) full few (c .before .before .before .before .before .before .before .before .loop-test .taken) in
-    let along = at .inv .1 in
-    let walk = walk-here reads (at .i) _ (at .w) _ rest along in
-    let most = ended-most reads (at .i) _ (at .w) _ rest along in
-    let sum = along .low .sum in
-    let low = along .low .at in
-    let same = at .inv .2 in
+    let h = here (a .n) (at .i) _ (a .t2) (at .w) (search needs) (c .before .before .before .before .before .before .before .before .before .before .before .pre .0) (at .inv .1) (c .before .before .before .before .before .before .before .before .loop-test .taken) in
     omega arith
 
 add-i : tie.Need-add-i Inv-loop μ-loop
@@ -113,76 +74,40 @@ loop-less : tie.Need-loop-less Inv-loop μ-loop
 loop-less c = search needs
 
 loop-again : tie.Need-loop-again Inv-loop μ-loop
-loop-again c = let a = c .before .before .before .before .before .before .before .before .before .before .before .before .args in
-    let few = c .before .before .before .before .before .before .before .before .before .before .before .before .pre .0 in
-    let laid = c .before .before .before .before .before .before .before .before .before .before .before .before .pre .1 in
-    let room = c .before .before .before .before .before .before .before .before .before .before .before .before .pre .2 in
-    let full : length (a .t2) ≡ 16 = search needs in
+loop-again c =
+    let a = c .before .before .before .before .before .before .before .before .before .before .before .before .args in
     let at = c .before .before .before .before .before .before .before .before .before .before .loop in
-    let reads = take (a .n) (a .t2) in
-    let rest = next-here (a .n) (at .i) (a .t2) full few (c .before .before .before .before .before .before .before .before .before .loop-test .taken) in
-    let along = at .inv .1 in
-    let walk = walk-here reads (at .i) _ (at .w) _ rest along in
-    let most = ended-most reads (at .i) _ (at .w) _ rest along in
-    let sum = along .low .sum in
-    let low = along .low .at in
-    let same = at .inv .2 in
-    let padded = rw rest at (at .inv .3) in
+    let h = here (a .n) (at .i) _ (a .t2) (at .w) (search needs) (c .before .before .before .before .before .before .before .before .before .before .before .before .pre .0) (at .inv .1) (c .before .before .before .before .before .before .before .before .before .loop-test .taken) in
+    let padded = rw (h .rest) at (at .inv .3) in
     let e = c .before .before .before .before .before .before .before .ended .ensures in
-    let next = padded-next _ (at .w) _ _ _ _ walk padded _ _ (rw e at (c .before .before .before .before .padding .ensures .0)) (rw e at (c .before .before .before .clear-at .ensures)) in
-    (search needs, along-next reads (at .i) 0 (at .w) _ rest along 0 _ (omega arith) (c .joined .ensures .0) (c .joined .ensures .1), ap length (next .filled) ∙ length-put _ _ _, rw (c .joined .ensures .0) next)
+    let next = padded-next _ (at .w) _ _ _ _ (h .walk) padded _ _ (rw e at (c .before .before .before .before .padding .ensures .0)) (rw e at (c .before .before .before .clear-at .ensures)) in
+    (search needs, h .onward 0 _ (omega arith) (c .joined .ensures .0) (c .joined .ensures .1), ap length (next .filled) ∙ length-put _ _ _, rw (c .joined .ensures .0) next)
 
 add-clear-at-2 : tie.Need-add-clear-at-2 Inv-loop μ-loop
-add-clear-at-2 c = let a = c .before .before .before .before .before .args in
-    let few = c .before .before .before .before .before .pre .0 in
-    let laid = c .before .before .before .before .before .pre .1 in
-    let room = c .before .before .before .before .before .pre .2 in
-    let full : length (a .t2) ≡ 16 = search needs in
+add-clear-at-2 c =
+    let a = c .before .before .before .before .before .args in
     let at = c .before .before .before .loop in
-    let end : at .i ≡ a .n = omega arith in
-    let none = no-more (a .n) (at .i) (a .t2) full few end in
-    let along = at .inv .1 in
-    let walk = rw none at (along .walk) in
-    let padded = rw none at (at .inv .3) in
-    let sum = along .low .sum in
-    let low = along .low .at in
-    let same = at .inv .2 in
+    let h = behind-all (a .n) (at .i) _ (a .t2) (at .w) (search needs) (c .before .before .before .before .before .pre .0) (at .inv .1) (omega arith) (at .inv .0) in
+    let padded = rw (h .none) at (at .inv .3) in
     omega arith
 
 padding-requires-2 : tie.Need-padding-requires-2 Inv-loop μ-loop
-padding-requires-2 c κs = let a = c .before .before .before .before .before .args in
-    let few = c .before .before .before .before .before .pre .0 in
-    let laid = c .before .before .before .before .before .pre .1 in
-    let room = c .before .before .before .before .before .pre .2 in
-    let full : length (a .t2) ≡ 16 = search needs in
+padding-requires-2 c κs =
+    let a = c .before .before .before .before .before .args in
     let at = c .before .before .before .loop in
-    let end : at .i ≡ a .n = omega arith in
-    let none = no-more (a .n) (at .i) (a .t2) full few end in
-    let along = at .inv .1 in
-    let walk = rw none at (along .walk) in
-    let padded = rw none at (at .inv .3) in
-    let sum = along .low .sum in
-    let low = along .low .at in
-    let same = at .inv .2 in
+    let h = behind-all (a .n) (at .i) _ (a .t2) (at .w) (search needs) (c .before .before .before .before .before .pre .0) (at .inv .1) (omega arith) (at .inv .0) in
+    let padded = rw (h .none) at (at .inv .3) in
     omega arith
 
 clear-at-requires-2 : tie.Need-clear-at-requires-2 Inv-loop μ-loop
-clear-at-requires-2 c κs = let a = c .before .before .before .before .before .before .args in
-    let few = c .before .before .before .before .before .before .pre .0 in
+clear-at-requires-2 c κs =
+    let a = c .before .before .before .before .before .before .args in
     let laid = c .before .before .before .before .before .before .pre .1 in
-    let room = c .before .before .before .before .before .before .pre .2 in
-    let full : length (a .t2) ≡ 16 = search needs in
     let at = c .before .before .before .before .loop in
-    let end : at .i ≡ a .n = omega arith in
-    let none = no-more (a .n) (at .i) (a .t2) full few end in
-    let along = at .inv .1 in
-    let walk = rw none at (along .walk) in
-    let padded = rw none at (at .inv .3) in
-    let sum = along .low .sum in
-    let low = along .low .at in
-    let same = at .inv .2 in
+    let h = behind-all (a .n) (at .i) _ (a .t2) (at .w) (search needs) (c .before .before .before .before .before .before .pre .0) (at .inv .1) (omega arith) (at .inv .0) in
+    let padded = rw (h .none) at (at .inv .3) in
     let pad = c .padding2 .ensures .0 in
-    let within = last-within (a .base) _ (at .w) (laid .stand) walk (padded .parts) in
+    let within = last-within (a .base) _ (at .w) (laid .stand) (h .walk) (padded .parts) in
     let up = rounded-most (at .w .length) .0 in
     omega arith
 
@@ -190,21 +115,12 @@ same-length : tie.Need-same-length Inv-loop μ-loop
 same-length c = search needs
 
 returns : tie.Need-returns Inv-loop μ-loop
-returns c = let a = c .before .before .before .before .before .before .before .before .before .args in
-    let few = c .before .before .before .before .before .before .before .before .before .pre .0 in
-    let laid = c .before .before .before .before .before .before .before .before .before .pre .1 in
-    let room = c .before .before .before .before .before .before .before .before .before .pre .2 in
-    let full : length (a .t2) ≡ 16 = search needs in
+returns c =
+    let a = c .before .before .before .before .before .before .before .before .before .args in
     let at = c .before .before .before .before .before .before .before .loop in
-    let end : at .i ≡ a .n = omega arith in
-    let none = no-more (a .n) (at .i) (a .t2) full few end in
-    let along = at .inv .1 in
-    let walk = rw none at (along .walk) in
-    let padded = rw none at (at .inv .3) in
-    let sum = along .low .sum in
-    let low = along .low .at in
-    let same = at .inv .2 in
-    padded-last _ (at .w) _ _ walk padded _ _ (c .before .before .before .padding2 .ensures .0) (c .before .before .clear-at2 .ensures)
+    let h = behind-all (a .n) (at .i) _ (a .t2) (at .w) (search needs) (c .before .before .before .before .before .before .before .before .before .pre .0) (at .inv .1) (omega arith) (at .inv .0) in
+    let padded = rw (h .none) at (at .inv .3) in
+    padded-last _ (at .w) _ _ (h .walk) padded _ _ (c .before .before .before .padding2 .ensures .0) (c .before .before .clear-at2 .ensures)
 
 pub clear-paddings-spec : {M : Type 1} → statement M
 clear-paddings-spec =

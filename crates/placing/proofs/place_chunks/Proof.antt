@@ -18,7 +18,7 @@ use Rattle.layout.specs.Places.{put}
 use Rattle.layout.specs.Walks.{endedLength}
 use Rattle.layout.specs.Layout.{otherChunks, places}
 use Rattle.layout.proofs.Putting.{length-put, put-none}
-use Rattle.layout.proofs.Remaining.{Along, along-start, next-here, no-more, walk-here, ended-most, along-next}
+use Rattle.layout.proofs.Remaining.{Along, along-start, here, behind-all}
 use Rattle.placing.proofs.place_chunks.Statement.{statement}
 use Rattle.placing.proofs.place_chunks.Tie as tie
 
@@ -61,22 +61,10 @@ least-requires-2 : tie.Need-least-requires-2 Inv-loop μ-loop
 least-requires-2 c κs = search needs
 
 add-copy-at : tie.Need-add-copy-at Inv-loop μ-loop
-add-copy-at c = let a = c .before .before .before .before .before .before .before .before .before .before .before .before .args in
-    let few = c .before .before .before .before .before .before .before .before .before .before .before .before .pre .0 in
-    let laid = c .before .before .before .before .before .before .before .before .before .before .before .before .pre .1 in
-    let room = c .before .before .before .before .before .before .before .before .before .before .before .before .pre .2 in
-    let fits = c .before .before .before .before .before .before .before .before .before .before .before .before .pre .3 in
-    let full : length (a .t3) ≡ 16 = search needs in
+add-copy-at c =
+    let a = c .before .before .before .before .before .before .before .before .before .before .before .before .args in
     let at = c .before .before .before .before .before .before .before .before .loop in
-    let reads = take (a .n) (a .t3) in
-    let rest = next-here (a .n) (at .i) (a .t3) full few (c .before .before .before .before .before .before .before .loop-test .taken) in
-    let along = at .inv .1 in
-    let walk = walk-here reads (at .i) _ (at .w) _ rest along in
-    let most = ended-most reads (at .i) _ (at .w) _ rest along in
-    let sum = along .low .sum in
-    let low = along .low .at in
-    let same = at .inv .2 in
-    let more = at .inv .3 in
+    let h = here (a .n) (at .i) _ (a .t3) (at .w) (search needs) (c .before .before .before .before .before .before .before .before .before .before .before .before .pre .0) (at .inv .1) (c .before .before .before .before .before .before .before .loop-test .taken) in
     let e = c .before .before .before .before .before .ended .ensures in
     let near = c .before .least2 .ensures in
     omega arith
@@ -91,28 +79,21 @@ part-copy-at-end : tie.Need-part-copy-at-end Inv-loop μ-loop
 part-copy-at-end c = let more = c .before .before .before .before .before .before .before .before .loop .inv .3 in let near = c .before .before .before .least .ensures in omega arith
 
 copy-at-requires : tie.Need-copy-at-requires Inv-loop μ-loop
-copy-at-requires c κs = let a = c .before .before .before .before .before .before .before .before .before .before .before .before .before .args in
-    let few = c .before .before .before .before .before .before .before .before .before .before .before .before .before .pre .0 in
+copy-at-requires c κs =
+    let a = c .before .before .before .before .before .before .before .before .before .before .before .before .before .args in
     let laid = c .before .before .before .before .before .before .before .before .before .before .before .before .before .pre .1 in
     let room = c .before .before .before .before .before .before .before .before .before .before .before .before .before .pre .2 in
     let fits = c .before .before .before .before .before .before .before .before .before .before .before .before .before .pre .3 in
-    let full : length (a .t3) ≡ 16 = search needs in
     let at = c .before .before .before .before .before .before .before .before .before .loop in
-    let reads = take (a .n) (a .t3) in
-    let rest = next-here (a .n) (at .i) (a .t3) full few (c .before .before .before .before .before .before .before .before .loop-test .taken) in
-    let along = at .inv .1 in
-    let walk = walk-here reads (at .i) _ (at .w) _ rest along in
-    let most = ended-most reads (at .i) _ (at .w) _ rest along in
-    let sum = along .low .sum in
-    let low = along .low .at in
+    let h = here (a .n) (at .i) _ (a .t3) (at .w) (search needs) (c .before .before .before .before .before .before .before .before .before .before .before .before .before .pre .0) (at .inv .1) (c .before .before .before .before .before .before .before .before .loop-test .taken) in
     let same = at .inv .2 in
     let more = at .inv .3 in
     let x = getD (a .t3) (at .i) zeroReadSegment in
-    let sought = rw rest at (at .inv .5) in
+    let sought = rw (h .rest) at (at .inv .5) in
     let ended = c .before .before .before .before .before .before .ended .ensures in
     let m : c .before .before .before .before .least .result ≤ endedLength (at .w) x - at .left = (let far = c .before .before .before .before .before .ahead .ensures in let near = c .before .before .before .before .least .ensures in omega arith) in
     let part = part-length (at .j) (c .before .before .before .before .least .result) (now (a .piece)) (let near = c .before .before .before .before .least .ensures in omega arith) in
-    let within = chunk-room _ (at .w) x _ walk (a .count) (at .j) (at .left) sought _ m (a .base) (laid .stand) (rw rest at (at .inv .6)) in
+    let within = chunk-room _ (at .w) x _ (h .walk) (a .count) (at .j) (at .left) sought _ m (a .base) (laid .stand) (rw (h .rest) at (at .inv .6)) in
     let near = c .before .before .least2 .ensures in
     omega arith
 
@@ -120,27 +101,15 @@ same-length : tie.Need-same-length Inv-loop μ-loop
 same-length c = search needs
 
 returns-2 : tie.Need-returns-2 Inv-loop μ-loop
-returns-2 c = let a = c .before .before .before .before .before .before .before .before .before .before .before .before .before .before .before .before .before .args in
-    let few = c .before .before .before .before .before .before .before .before .before .before .before .before .before .before .before .before .before .pre .0 in
-    let laid = c .before .before .before .before .before .before .before .before .before .before .before .before .before .before .before .before .before .pre .1 in
-    let room = c .before .before .before .before .before .before .before .before .before .before .before .before .before .before .before .before .before .pre .2 in
-    let fits = c .before .before .before .before .before .before .before .before .before .before .before .before .before .before .before .before .before .pre .3 in
-    let full : length (a .t3) ≡ 16 = search needs in
+returns-2 c =
+    let a = c .before .before .before .before .before .before .before .before .before .before .before .before .before .before .before .before .before .args in
     let at = c .before .before .before .before .before .before .before .before .before .before .before .before .before .loop in
-    let reads = take (a .n) (a .t3) in
-    let rest = next-here (a .n) (at .i) (a .t3) full few (c .before .before .before .before .before .before .before .before .before .before .before .before .loop-test .taken) in
-    let along = at .inv .1 in
-    let walk = walk-here reads (at .i) _ (at .w) _ rest along in
-    let most = ended-most reads (at .i) _ (at .w) _ rest along in
-    let sum = along .low .sum in
-    let low = along .low .at in
-    let same = at .inv .2 in
-    let more = at .inv .3 in
+    let h = here (a .n) (at .i) _ (a .t3) (at .w) (search needs) (c .before .before .before .before .before .before .before .before .before .before .before .before .before .before .before .before .before .pre .0) (at .inv .1) (c .before .before .before .before .before .before .before .before .before .before .before .before .loop-test .taken) in
     let x = getD (a .t3) (at .i) zeroReadSegment in
-    let sought = rw rest at (at .inv .5) in
+    let sought = rw (h .rest) at (at .inv .5) in
     let ended = c .before .before .before .before .before .before .before .before .before .before .ended .ensures in
     let m : c .before .before .before .before .before .before .before .before .least .result ≤ endedLength (at .w) x - at .left = (let far = c .before .before .before .before .before .before .before .before .before .ahead .ensures in let near = c .before .before .before .before .before .before .before .before .least .ensures in omega arith) in
-    let after = chunk-placed _ (at .w) x _ walk (a .count) (at .j) (at .left) sought _ m (now (a .piece)) (now (a .out)) (at .out) _ (let near = c .before .before .before .before .before .before .before .before .least .ensures in omega arith) (at .inv .4) (rw (c .before .before .before .before .before .before .least2 .ensures, c .before .before .before .before .before .before .before .before .before .before .ended .ensures) at (c .before .before .before .copy-at .ensures)) in
+    let after = chunk-placed _ (at .w) x _ (h .walk) (a .count) (at .j) (at .left) sought _ m (now (a .piece)) (now (a .out)) (at .out) _ (let near = c .before .before .before .before .before .before .before .before .least .ensures in omega arith) (at .inv .4) (rw (c .before .before .before .before .before .before .least2 .ensures, c .before .before .before .before .before .before .before .before .before .before .ended .ensures) at (c .before .before .before .copy-at .ensures)) in
     let all = c .if2 .taken in
     after ∙ rw (all, take-length)
 
@@ -153,24 +122,17 @@ add-left c =
     record { fits = left-fits _ _ _ _ _ _ _ _ _ _ (c .before .before .before .before .before .before .before .before .before .before .before .before .before .loop .inv .7) (c .before .before .before .before .before .before .before .before .least .ensures) (pre .3) (rw (← (length-places cs)) (source-most false (a .base) cs (pre .1 .stand))) (pre .2) bound }
 
 sub-left : tie.Need-sub-left Inv-loop μ-loop
-sub-left c = let a = c .before .before .before .before .before .before .before .before .before .before .before .before .before .before .before .before .before .args in
-    let few = c .before .before .before .before .before .before .before .before .before .before .before .before .before .before .before .before .before .pre .0 in
+sub-left c =
+    let a = c .before .before .before .before .before .before .before .before .before .before .before .before .before .before .before .before .before .args in
     let laid = c .before .before .before .before .before .before .before .before .before .before .before .before .before .before .before .before .before .pre .1 in
     let room = c .before .before .before .before .before .before .before .before .before .before .before .before .before .before .before .before .before .pre .2 in
     let fits = c .before .before .before .before .before .before .before .before .before .before .before .before .before .before .before .before .before .pre .3 in
-    let full : length (a .t3) ≡ 16 = search needs in
     let at = c .before .before .before .before .before .before .before .before .before .before .before .before .before .loop in
-    let reads = take (a .n) (a .t3) in
-    let rest = next-here (a .n) (at .i) (a .t3) full few (c .before .before .before .before .before .before .before .before .before .before .before .before .loop-test .taken) in
-    let along = at .inv .1 in
-    let walk = walk-here reads (at .i) _ (at .w) _ rest along in
-    let most = ended-most reads (at .i) _ (at .w) _ rest along in
-    let sum = along .low .sum in
-    let low = along .low .at in
+    let h = here (a .n) (at .i) _ (a .t3) (at .w) (search needs) (c .before .before .before .before .before .before .before .before .before .before .before .before .before .before .before .before .before .pre .0) (at .inv .1) (c .before .before .before .before .before .before .before .before .before .before .before .before .loop-test .taken) in
     let same = at .inv .2 in
     let more = at .inv .3 in
     let x = getD (a .t3) (at .i) zeroReadSegment in
-    let sought = rw rest at (at .inv .5) in
+    let sought = rw (h .rest) at (at .inv .5) in
     let ended = c .before .before .before .before .before .before .before .before .before .before .ended .ensures in
     let m : c .before .before .before .before .before .before .before .before .least .result ≤ endedLength (at .w) x - at .left = (let far = c .before .before .before .before .before .before .before .before .before .ahead .ensures in let near = c .before .before .before .before .before .before .before .before .least .ensures in omega arith) in
     let far = c .before .before .before .before .before .before .before .before .before .ahead .ensures in
@@ -179,22 +141,10 @@ sub-left c = let a = c .before .before .before .before .before .before .before .
     omega arith
 
 joined-requires : tie.Need-joined-requires Inv-loop μ-loop
-joined-requires c κs = let a = c .before .before .before .before .before .before .before .before .before .before .before .before .before .before .before .before .before .args in
-    let few = c .before .before .before .before .before .before .before .before .before .before .before .before .before .before .before .before .before .pre .0 in
-    let laid = c .before .before .before .before .before .before .before .before .before .before .before .before .before .before .before .before .before .pre .1 in
-    let room = c .before .before .before .before .before .before .before .before .before .before .before .before .before .before .before .before .before .pre .2 in
-    let fits = c .before .before .before .before .before .before .before .before .before .before .before .before .before .before .before .before .before .pre .3 in
-    let full : length (a .t3) ≡ 16 = search needs in
+joined-requires c κs =
+    let a = c .before .before .before .before .before .before .before .before .before .before .before .before .before .before .before .before .before .args in
     let at = c .before .before .before .before .before .before .before .before .before .before .before .before .before .loop in
-    let reads = take (a .n) (a .t3) in
-    let rest = next-here (a .n) (at .i) (a .t3) full few (c .before .before .before .before .before .before .before .before .before .before .before .before .loop-test .taken) in
-    let along = at .inv .1 in
-    let walk = walk-here reads (at .i) _ (at .w) _ rest along in
-    let most = ended-most reads (at .i) _ (at .w) _ rest along in
-    let sum = along .low .sum in
-    let low = along .low .at in
-    let same = at .inv .2 in
-    let more = at .inv .3 in
+    let h = here (a .n) (at .i) _ (a .t3) (at .w) (search needs) (c .before .before .before .before .before .before .before .before .before .before .before .before .before .before .before .before .before .pre .0) (at .inv .1) (c .before .before .before .before .before .before .before .before .before .before .before .before .loop-test .taken) in
     omega arith
 
 add-i : tie.Need-add-i Inv-loop μ-loop
@@ -204,51 +154,34 @@ loop-less : tie.Need-loop-less Inv-loop μ-loop
 loop-less c = let lt = c .before .before .before .before .before .before .before .before .before .before .before .before .before .loop-test .taken in omega arith
 
 loop-again : tie.Need-loop-again Inv-loop μ-loop
-loop-again c = let a = c .before .before .before .before .before .before .before .before .before .before .before .before .before .before .before .before .before .before .args in
-    let few = c .before .before .before .before .before .before .before .before .before .before .before .before .before .before .before .before .before .before .pre .0 in
+loop-again c =
+    let a = c .before .before .before .before .before .before .before .before .before .before .before .before .before .before .before .before .before .before .args in
     let laid = c .before .before .before .before .before .before .before .before .before .before .before .before .before .before .before .before .before .before .pre .1 in
     let room = c .before .before .before .before .before .before .before .before .before .before .before .before .before .before .before .before .before .before .pre .2 in
     let fits = c .before .before .before .before .before .before .before .before .before .before .before .before .before .before .before .before .before .before .pre .3 in
-    let full : length (a .t3) ≡ 16 = search needs in
     let at = c .before .before .before .before .before .before .before .before .before .before .before .before .before .before .loop in
-    let reads = take (a .n) (a .t3) in
-    let rest = next-here (a .n) (at .i) (a .t3) full few (c .before .before .before .before .before .before .before .before .before .before .before .before .before .loop-test .taken) in
-    let along = at .inv .1 in
-    let walk = walk-here reads (at .i) _ (at .w) _ rest along in
-    let most = ended-most reads (at .i) _ (at .w) _ rest along in
-    let sum = along .low .sum in
-    let low = along .low .at in
+    let h = here (a .n) (at .i) _ (a .t3) (at .w) (search needs) (c .before .before .before .before .before .before .before .before .before .before .before .before .before .before .before .before .before .before .pre .0) (at .inv .1) (c .before .before .before .before .before .before .before .before .before .before .before .before .before .loop-test .taken) in
     let same = at .inv .2 in
     let more = at .inv .3 in
     let x = getD (a .t3) (at .i) zeroReadSegment in
-    let sought = rw rest at (at .inv .5) in
+    let sought = rw (h .rest) at (at .inv .5) in
     let ended = c .before .before .before .before .before .before .before .before .before .before .before .ended .ensures in
     let m : c .before .before .before .before .before .before .before .before .before .least .result ≤ endedLength (at .w) x - at .left = (let far = c .before .before .before .before .before .before .before .before .before .before .ahead .ensures in let near = c .before .before .before .before .before .before .before .before .before .least .ensures in omega arith) in
-    let after = chunk-placed _ (at .w) x _ walk (a .count) (at .j) (at .left) sought _ m (now (a .piece)) (now (a .out)) (at .out) _ (let near = c .before .before .before .before .before .before .before .before .before .least .ensures in omega arith) (at .inv .4) (rw (c .before .before .before .before .before .before .before .least2 .ensures, c .before .before .before .before .before .before .before .before .before .before .before .ended .ensures) at (c .before .before .before .before .copy-at .ensures)) in
+    let after = chunk-placed _ (at .w) x _ (h .walk) (a .count) (at .j) (at .left) sought _ m (now (a .piece)) (now (a .out)) (at .out) _ (let near = c .before .before .before .before .before .before .before .before .before .least .ensures in omega arith) (at .inv .4) (rw (c .before .before .before .before .before .before .before .least2 .ensures, c .before .before .before .before .before .before .before .before .before .before .before .ended .ensures) at (c .before .before .before .before .copy-at .ensures)) in
     let far = c .before .before .before .before .before .before .before .before .before .before .ahead .ensures in
     let near = c .before .before .before .before .before .before .before .before .before .least .ensures in
     let left = c .before .if2 .left in
     let joined = c .joined .ensures in
-    let next = chunk-next-byte _ (at .w) x _ walk (a .count) (at .j) (at .left) sought _ m (omega arith) (omega arith) in
-    (search needs, along-next reads (at .i) 0 (at .w) _ rest along 0 _ (omega arith) (joined .0) (joined .1), ap length after ∙ length-put _ _ _, omega arith, after, rw (joined .0, ended) next, rw (joined .0) (parted-next _ (at .w) x _ walk (rw rest at (at .inv .6))), rw ended (let before = at .inv .7 in omega arith))
+    let next = chunk-next-byte _ (at .w) x _ (h .walk) (a .count) (at .j) (at .left) sought _ m (omega arith) (omega arith) in
+    (search needs, h .onward 0 _ (omega arith) (joined .0) (joined .1), ap length after ∙ length-put _ _ _, omega arith, after, rw (joined .0, ended) next, rw (joined .0) (parted-next _ (at .w) x _ (h .walk) (rw (h .rest) at (at .inv .6))), rw ended (let before = at .inv .7 in omega arith))
 
 add-copy-at-2 : tie.Need-add-copy-at-2 Inv-loop μ-loop
-add-copy-at-2 c = let a = c .before .before .before .before .before .before .before .args in
-    let few = c .before .before .before .before .before .before .before .pre .0 in
+add-copy-at-2 c =
+    let a = c .before .before .before .before .before .before .before .args in
     let laid = c .before .before .before .before .before .before .before .pre .1 in
-    let room = c .before .before .before .before .before .before .before .pre .2 in
-    let fits = c .before .before .before .before .before .before .before .pre .3 in
-    let full : length (a .t3) ≡ 16 = search needs in
     let at = c .before .before .before .loop in
-    let end : at .i ≡ a .n = omega arith in
-    let none = no-more (a .n) (at .i) (a .t3) full few end in
-    let along = at .inv .1 in
-    let walk = rw none at (along .walk) in
-    let sum = along .low .sum in
-    let low = along .low .at in
-    let same = at .inv .2 in
-    let more = at .inv .3 in
-    let byte = chunk-last _ _ _ (at .w) walk (rw none at (at .inv .5)) in
+    let h = behind-all (a .n) (at .i) _ (a .t3) (at .w) (search needs) (c .before .before .before .before .before .before .before .pre .0) (at .inv .1) (omega arith) (at .inv .0) in
+    let byte = chunk-last _ _ _ (at .w) (h .walk) (rw (h .none) at (at .inv .5)) in
     let there = byte .some in
     let behind = byte .rest in
     let total = source-most false (a .base) (otherChunks (take (a .n) (a .t3))) (laid .stand) in
@@ -264,26 +197,16 @@ part-copy-at-end-2 : tie.Need-part-copy-at-end-2 Inv-loop μ-loop
 part-copy-at-end-2 c = search needs
 
 copy-at-requires-2 : tie.Need-copy-at-requires-2 Inv-loop μ-loop
-copy-at-requires-2 c κs = let a = c .before .before .before .before .before .before .before .before .args in
-    let few = c .before .before .before .before .before .before .before .before .pre .0 in
+copy-at-requires-2 c κs =
+    let a = c .before .before .before .before .before .before .before .before .args in
     let laid = c .before .before .before .before .before .before .before .before .pre .1 in
-    let room = c .before .before .before .before .before .before .before .before .pre .2 in
-    let fits = c .before .before .before .before .before .before .before .before .pre .3 in
-    let full : length (a .t3) ≡ 16 = search needs in
     let at = c .before .before .before .before .loop in
-    let end : at .i ≡ a .n = omega arith in
-    let none = no-more (a .n) (at .i) (a .t3) full few end in
-    let along = at .inv .1 in
-    let walk = rw none at (along .walk) in
-    let sum = along .low .sum in
-    let low = along .low .at in
-    let same = at .inv .2 in
-    let more = at .inv .3 in
-    let byte = chunk-last _ _ _ (at .w) walk (rw none at (at .inv .5)) in
+    let h = behind-all (a .n) (at .i) _ (a .t3) (at .w) (search needs) (c .before .before .before .before .before .before .before .before .pre .0) (at .inv .1) (omega arith) (at .inv .0) in
+    let byte = chunk-last _ _ _ (at .w) (h .walk) (rw (h .none) at (at .inv .5)) in
     let there = byte .some in
     let behind = byte .rest in
     let total = source-most false (a .base) (otherChunks (take (a .n) (a .t3))) (laid .stand) in
-    let within = last-within (a .base) _ (at .w) (laid .stand) walk (rw none at (at .inv .6)) in
+    let within = last-within (a .base) _ (at .w) (laid .stand) (h .walk) (rw (h .none) at (at .inv .6)) in
     let up = rounded-most (at .w .length) .0 in
     rw (part-from (at .j) (now (a .piece))) (omega (arith, length-drop (at .j) (now (a .piece))))
 
@@ -291,22 +214,12 @@ same-length-2 : tie.Need-same-length-2 Inv-loop μ-loop
 same-length-2 c = search needs
 
 returns-3 : tie.Need-returns-3 Inv-loop μ-loop
-returns-3 c = let a = c .before .before .before .before .before .before .before .before .before .before .before .args in
-    let few = c .before .before .before .before .before .before .before .before .before .before .before .pre .0 in
+returns-3 c =
+    let a = c .before .before .before .before .before .before .before .before .before .before .before .args in
     let laid = c .before .before .before .before .before .before .before .before .before .before .before .pre .1 in
-    let room = c .before .before .before .before .before .before .before .before .before .before .before .pre .2 in
-    let fits = c .before .before .before .before .before .before .before .before .before .before .before .pre .3 in
-    let full : length (a .t3) ≡ 16 = search needs in
     let at = c .before .before .before .before .before .before .before .loop in
-    let end : at .i ≡ a .n = omega arith in
-    let none = no-more (a .n) (at .i) (a .t3) full few end in
-    let along = at .inv .1 in
-    let walk = rw none at (along .walk) in
-    let sum = along .low .sum in
-    let low = along .low .at in
-    let same = at .inv .2 in
-    let more = at .inv .3 in
-    let byte = chunk-last _ _ _ (at .w) walk (rw none at (at .inv .5)) in
+    let h = behind-all (a .n) (at .i) _ (a .t3) (at .w) (search needs) (c .before .before .before .before .before .before .before .before .before .before .before .pre .0) (at .inv .1) (omega arith) (at .inv .0) in
+    let byte = chunk-last _ _ _ (at .w) (h .walk) (rw (h .none) at (at .inv .5)) in
     let there = byte .some in
     let behind = byte .rest in
     let total = source-most false (a .base) (otherChunks (take (a .n) (a .t3))) (laid .stand) in
