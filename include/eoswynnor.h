@@ -40,9 +40,9 @@ extern "C" {
 #define EOS_SMALLEST_SIZE 1024      /* of a send or receive size, which is a multiple of 1,024 */
 #define EOS_LARGEST_SIZE 262144
 
-/* The answer numbers, each given exactly when its text holds. */
+/* The answer numbers. Where more than one text holds, the call's first check gives its number. */
 enum eos_number {
-    EOS_DONE = 0,
+    EOS_DONE = 0,                /* done */
     EOS_SHORT_FRAME = 1,         /* frame under 16 bytes */
     EOS_OTHER_VERSION = 2,       /* version is not 1 */
     EOS_OTHER_PROCEDURE = 3,     /* procedure is 2 or above 4 */
