@@ -1,0 +1,212 @@
+/*
+ * Eoswynnor: a proved receiver for RPC over RDMA version 1 (RFC 8166) with the connection setup data of RFC 8797.
+ * C99 and C++, x86-64 System V alone. Link with -leoswynnor; the library needs memcpy, memmove and memset, keeps
+ * nothing between calls, takes no memory and may be called from any thread.
+ *
+ * What a caller has to keep to:
+ * - A buffer is lent for the call alone, as pointer and length. The pointer is valid for that many bytes and never
+ *   null: for length 0 any pointer that is not null will do. A length is at most PTRDIFF_MAX.
+ * - The buffers lent to one call (frame and out, piece and out) do not overlap, and nobody else writes them meanwhile.
+ * - The state of a reassembly is handed on: each call gets the one that was handed back last, and the same buffer, with
+ *   nothing in it changed. Another length of the buffer is refused; other contents cannot be noticed.
+ * - Structs have holes whose bytes mean nothing: compare them field by field, never with memcmp.
+ *
+ * For the rest any bytes, header, state and number may be handed in. A call answers a number, 0 when done. A refused call
+ * changes no byte that was lent, hands back the state that it got, and all else as 0.
+ */
+#ifndef EOSWYNNOR_H
+#define EOSWYNNOR_H
+
+#include <stddef.h>
+#include <stdint.h>
+
+#if !defined(__x86_64__) || defined(__ILP32__) || defined(_WIN32)
+#error "libeoswynnor.a is built for x86-64 System V"
+#endif
+
+#ifdef __cplusplus
+extern "C" {
+#endif
+
+/* Limits. */
+#define EOS_READ_SEGMENTS 16        /* in the read list */
+#define EOS_WRITE_CHUNKS 4          /* in the write list */
+#define EOS_WRITE_SEGMENTS 16       /* in all write chunks together */
+#define EOS_REPLY_SEGMENTS 16       /* in the reply chunk */
+#define EOS_LONGEST_MESSAGE 1048576 /* bytes of a reassembled message */
+#define EOS_LONGEST_HEADER 1024     /* bytes of a header to be written: room that always suffices */
+#define EOS_LONGEST_REPLY 28        /* bytes of an error reply: room that always suffices */
+#define EOS_SETUP_BYTES 8           /* bytes of setup data */
+#define EOS_SMALLEST_SIZE 1024      /* of a send or receive size, which is a multiple of 1,024 */
+#define EOS_LARGEST_SIZE 262144
+
+/* The answer numbers. Where more than one text holds, the call's first check gives its number. */
+enum eos_number {
+    EOS_DONE = 0,                /* done */
+    EOS_SHORT_FRAME = 1,         /* frame under 16 bytes */
+    EOS_OTHER_VERSION = 2,       /* version is not 1 */
+    EOS_OTHER_PROCEDURE = 3,     /* procedure is 2 or above 4 */
+    EOS_PROCEDURE_DONE = 4,      /* procedure is 3 */
+    EOS_ENDS_INSIDE_FIELD = 5,   /* frame ends inside a field that must be there */
+    EOS_BAD_MARKER = 6,          /* a marker word above 1 */
+    EOS_OVER_LIMIT = 7,          /* an entry or count that goes over a limit above */
+    EOS_POSITION_FALLS = 8,      /* a read position below the one before it */
+    EOS_POSITION_UNALIGNED = 9,  /* a read position that is no multiple of 4 */
+    EOS_OTHER_ERROR_CODE = 10,   /* error code neither 1 nor 2 */
+    EOS_BYTES_BEHIND = 11,       /* bytes behind a NOMSG or ERROR header */
+    EOS_KIND_AND_LISTS = 12,     /* kind and lists do not fit: at a start an ERROR header, MSG with a segment at position 0
+                                    or NOMSG with none there; in writing an ERROR header with an entry or reply chunk */
+    EOS_BASE_UNALIGNED = 13,     /* base length no multiple of 4 */
+    EOS_CHUNK_OVERLAPS = 14,     /* a chunk's position overlaps or lies past the base */
+    EOS_MESSAGE_LONG = 15,       /* message above 1,048,576 bytes */
+    EOS_BUFFER_SHORT = 16,       /* output buffer too short */
+    EOS_STATE_UNFIT = 17,        /* state not one that can arise, or another buffer length than at the start */
+    EOS_PIECE_LONG = 18,         /* piece longer than what is still to be pulled */
+    EOS_BYTES_MISSING = 19,      /* message asked for before all bytes are in */
+    EOS_BAD_ARGUMENT = 20,       /* credit limit 0, a size out of rule, an answer number above 21; a kind or flag that
+                                    does not exist */
+    EOS_HEADER_LONG = 21         /* a header to be written is longer than 1,024 bytes */
+};
+
+/* Kinds of a header; a state has one of the first two. */
+enum eos_kind {
+    EOS_MSG = 0,
+    EOS_NOMSG = 1,
+    EOS_ERROR_VERSION = 2,       /* with low and high */
+    EOS_ERROR_CHUNK = 3
+};
+
+/* Memory that the other side registered. */
+struct eos_segment {
+    uint32_t handle;
+    uint32_t length;
+    uint64_t offset;
+};
+
+/* A segment to be pulled, and where in the message its bytes go. */
+struct eos_read_segment {
+    uint32_t position;
+    struct eos_segment target;
+};
+
+/* A transport header. Places behind a count are unused: zero in a header that was read, ignored in one to be written. */
+struct eos_header {
+    struct eos_read_segment reads[EOS_READ_SEGMENTS];
+    struct eos_segment writes[EOS_WRITE_SEGMENTS]; /* of all write chunks, one behind the other */
+    struct eos_segment reply[EOS_REPLY_SEGMENTS];
+    uint32_t write_counts[EOS_WRITE_CHUNKS];       /* segments of each write chunk */
+    uint32_t read_count;
+    uint32_t write_chunks;
+    uint32_t reply_present;                        /* 0 or 1 */
+    uint32_t reply_count;
+    uint32_t kind;                                 /* enum eos_kind */
+    uint32_t low;                                  /* low and high of EOS_ERROR_VERSION, else 0 */
+    uint32_t high;
+    uint32_t xid;
+    uint32_t credit;
+};
+
+struct eos_read_answer {
+    struct eos_header header;
+    uint32_t number;
+};
+
+/* What a writer answers: its number, and how many bytes it wrote. Bytes behind them are kept. */
+struct eos_write_answer {
+    uint32_t number;
+    size_t length;
+};
+
+/* A part of a lent buffer; an empty one is 0, 0. */
+struct eos_part {
+    size_t offset;
+    size_t length;
+};
+
+/* The setup data of one side. Sizes are numbers of bytes. */
+struct eos_setup {
+    uint32_t remote_invalidation; /* 0 or 1 */
+    uint32_t send;
+    uint32_t receive;
+};
+
+struct eos_setup_answer {
+    struct eos_setup setup;
+    uint32_t present;             /* 0 or 1 */
+    uint32_t number;
+};
+
+struct eos_agreement {
+    uint32_t client_to_server;    /* inline size of this direction, in bytes */
+    uint32_t server_to_client;
+    uint32_t remote_invalidation; /* 0 or 1 */
+    uint32_t number;
+};
+
+struct eos_grant_answer {
+    uint32_t credit;
+    uint32_t number;
+};
+
+/* The state of a reassembly. Pull reads[0] to reads[read_count - 1], in this order; leave the fields alone. */
+struct eos_state {
+    struct eos_read_segment reads[EOS_READ_SEGMENTS];
+    size_t base;
+    size_t buffer;
+    size_t taken;                 /* bytes taken so far */
+    uint32_t read_count;
+    uint32_t kind;                /* EOS_MSG or EOS_NOMSG */
+};
+
+struct eos_state_answer {
+    struct eos_state state;
+    uint32_t number;
+};
+
+/* Reads the header of a frame. Numbers 1 to 11. */
+struct eos_read_answer eos_read_header(const uint8_t *frame, size_t frame_len);
+
+/* Where the inline payload of a frame lies; empty where eos_read_header refuses. */
+struct eos_part eos_payload(const uint8_t *frame, size_t frame_len);
+
+/* Writes a header to the front of a buffer; the payload is the caller's. Numbers 7 to 9, 12, 16, 20, 21. */
+struct eos_write_answer eos_write_header(struct eos_header f, uint8_t *out, size_t out_len);
+
+/* Reads setup data from the first 8 bytes. Where there is none, present is 0, the flag 0 and both sizes are 1,024.
+ * Always number 0. */
+struct eos_setup_answer eos_read_setup(const uint8_t *bytes, size_t bytes_len);
+
+/* Writes the 8 bytes of setup data to the front of a buffer. Numbers 16, 20. */
+struct eos_write_answer eos_write_setup(struct eos_setup f, uint8_t *out, size_t out_len);
+
+/* The inline size of each direction, and whether remote invalidation may be used. Number 20. */
+struct eos_agreement eos_agree(struct eos_setup client, struct eos_setup server);
+
+/* The credits to grant: the smaller of asked and limit, but at least 1. Number 20. */
+struct eos_grant_answer eos_grant(uint32_t asked, uint32_t limit);
+
+/* Writes the reply to a frame that was answered with a number; length 0 where it gets none. limit is our credit limit.
+ * Numbers 16, 20. */
+struct eos_write_answer eos_error_reply(const uint8_t *frame, size_t frame_len, uint32_t answer, uint32_t limit,
+                                        uint8_t *out, size_t out_len);
+
+/* Starts the reassembly of a call: reads the frame, writes its inline bytes and all padding to their places in the
+ * buffer, which may be longer than the message. The frame is not needed again. Numbers 1 to 16. */
+struct eos_state_answer eos_start(const uint8_t *frame, size_t frame_len, uint8_t *out, size_t out_len);
+
+/* Takes the next pulled bytes, cut as they come: the bytes of reads[0], then those of reads[1] and so on. Of the state
+ * only taken changes. Numbers 17, 18. */
+struct eos_state_answer eos_take_piece(struct eos_state f, const uint8_t *piece, size_t piece_len,
+                                       uint8_t *out, size_t out_len);
+
+/* Whether all bytes are in. Numbers 17, 19. */
+uint32_t eos_ask(struct eos_state f, const uint8_t *out, size_t out_len);
+
+/* Where the message lies: the first part of the buffer; empty where eos_ask refuses. */
+struct eos_part eos_message(struct eos_state f, const uint8_t *out, size_t out_len);
+
+#ifdef __cplusplus
+}
+#endif
+
+#endif
