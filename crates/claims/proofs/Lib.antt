@@ -19,3 +19,4 @@ pub mod Apart
 pub mod Woven
 pub mod Message
 pub mod Demand3
+pub mod Exports

@@ -3,3 +3,4 @@ pub mod Examples
 pub mod Replies
 pub mod Message
 pub mod Tally
+pub mod Exports
