@@ -12,7 +12,17 @@
  * - Structs have holes whose bytes mean nothing: compare them field by field, never with memcmp.
  *
  * For the rest any bytes, header, state and number may be handed in. A call answers a number, 0 when done. A refused call
- * changes no byte that was lent, hands back the state that it got, and all else as 0.
+ * changes no byte that was lent, hands back the state that it got, and all else as 0; a refused start, which got none,
+ * hands back a state of zeros.
+ *
+ * The way of a call:
+ *
+ *     struct eos_state_answer a = eos_start(frame, frame_len, out, out_len);
+ *     if (a.number != EOS_DONE) refuse: eos_error_reply(frame, frame_len, a.number, limit, reply, EOS_LONGEST_REPLY);
+ *     for each piece pulled, in the order of a.state.reads:
+ *         a = eos_take_piece(a.state, piece, piece_len, out, out_len);    (a refused piece leaves a.state as it was)
+ *     if (eos_ask(a.state, out, out_len) == EOS_DONE)
+ *         the message is the first eos_message(a.state, out, out_len).length bytes of out
  */
 #ifndef EOSWYNNOR_H
 #define EOSWYNNOR_H
@@ -33,14 +43,15 @@ extern "C" {
 #define EOS_WRITE_CHUNKS 4          /* in the write list */
 #define EOS_WRITE_SEGMENTS 16       /* in all write chunks together */
 #define EOS_REPLY_SEGMENTS 16       /* in the reply chunk */
-#define EOS_LONGEST_MESSAGE 1048576 /* bytes of a reassembled message */
+#define EOS_LONGEST_MESSAGE 1048576 /* bytes of a reassembled message: room that always suffices */
 #define EOS_LONGEST_HEADER 1024     /* bytes of a header to be written: room that always suffices */
 #define EOS_LONGEST_REPLY 28        /* bytes of an error reply: room that always suffices */
 #define EOS_SETUP_BYTES 8           /* bytes of setup data */
 #define EOS_SMALLEST_SIZE 1024      /* of a send or receive size, which is a multiple of 1,024 */
 #define EOS_LARGEST_SIZE 262144
 
-/* The answer numbers. Where more than one text holds, the call's first check gives its number. */
+/* The answer numbers. Where more than one text holds, the first check that fails gives its number: each call makes the
+ * checks that are named with it in the order in which they are named. */
 enum eos_number {
     EOS_DONE = 0,                /* done */
     EOS_SHORT_FRAME = 1,         /* frame under 16 bytes */
@@ -148,11 +159,12 @@ struct eos_grant_answer {
     uint32_t number;
 };
 
-/* The state of a reassembly. Pull reads[0] to reads[read_count - 1], in this order; leave the fields alone. */
+/* The state of a reassembly. Pull reads[0] to reads[read_count - 1], in this order, target.length bytes of each and no
+ * padding; leave the fields alone. What is still to be pulled is the sum of these lengths less taken. */
 struct eos_state {
     struct eos_read_segment reads[EOS_READ_SEGMENTS];
-    size_t base;
-    size_t buffer;
+    size_t base;                  /* bytes of the inline payload, or of the segments at position 0 */
+    size_t buffer;                /* length of the buffer at the start */
     size_t taken;                 /* bytes taken so far */
     uint32_t read_count;
     uint32_t kind;                /* EOS_MSG or EOS_NOMSG */
@@ -163,21 +175,22 @@ struct eos_state_answer {
     uint32_t number;
 };
 
-/* Reads the header of a frame. Numbers 1 to 11. */
+/* Reads the header of a frame. Numbers 1 to 4, then 5 to 10 from left to right, then 11. */
 struct eos_read_answer eos_read_header(const uint8_t *frame, size_t frame_len);
 
 /* Where the inline payload of a frame lies; empty where eos_read_header refuses. */
 struct eos_part eos_payload(const uint8_t *frame, size_t frame_len);
 
-/* Writes a header to the front of a buffer; the payload is the caller's. Numbers 7 to 9, 12, 16, 20, 21. */
-struct eos_write_answer eos_write_header(struct eos_header f, uint8_t *out, size_t out_len);
+/* Writes a header to the front of a buffer; the payload is the caller's. Numbers 20, 12, 7, then entry by entry 9 and 8,
+ * then 21, 16. */
+struct eos_write_answer eos_write_header(struct eos_header h, uint8_t *out, size_t out_len);
 
 /* Reads setup data from the first 8 bytes. Where there is none, present is 0, the flag 0 and both sizes are 1,024.
  * Always number 0. */
 struct eos_setup_answer eos_read_setup(const uint8_t *bytes, size_t bytes_len);
 
-/* Writes the 8 bytes of setup data to the front of a buffer. Numbers 16, 20. */
-struct eos_write_answer eos_write_setup(struct eos_setup f, uint8_t *out, size_t out_len);
+/* Writes the 8 bytes of setup data to the front of a buffer. Numbers 20, 16. */
+struct eos_write_answer eos_write_setup(struct eos_setup x, uint8_t *out, size_t out_len);
 
 /* The inline size of each direction, and whether remote invalidation may be used. Number 20. */
 struct eos_agreement eos_agree(struct eos_setup client, struct eos_setup server);
@@ -185,25 +198,29 @@ struct eos_agreement eos_agree(struct eos_setup client, struct eos_setup server)
 /* The credits to grant: the smaller of asked and limit, but at least 1. Number 20. */
 struct eos_grant_answer eos_grant(uint32_t asked, uint32_t limit);
 
-/* Writes the reply to a frame that was answered with a number; length 0 where it gets none. limit is our credit limit.
- * Numbers 16, 20. */
-struct eos_write_answer eos_error_reply(const uint8_t *frame, size_t frame_len, uint32_t answer, uint32_t limit,
+/* Writes the reply to a frame that was answered with a number, which is the caller's to hand in as it was given: 2 gets
+ * a version error (28 bytes), 3, 5 to 9 and 11 to 15 a chunk error (20 bytes), the others none. A frame under 16 bytes
+ * or with an ERROR header gets none. Where there is none the number is 0 and the length 0: send nothing. The reply
+ * carries the frame's xid and the grant for its credit word under limit, our credit limit. Numbers 20, then 16. */
+struct eos_write_answer eos_error_reply(const uint8_t *frame, size_t frame_len, uint32_t number, uint32_t limit,
                                         uint8_t *out, size_t out_len);
 
 /* Starts the reassembly of a call: reads the frame, writes its inline bytes and all padding to their places in the
- * buffer, which may be longer than the message. The frame is not needed again. Numbers 1 to 16. */
+ * buffer. The message has as many bytes as the inline payload and the segments at position 0 together, and for each other
+ * position the bytes of its segments, rounded up together to a multiple of 4; the buffer may be longer. The frame is not
+ * needed again. Numbers as for eos_read_header, then 12 to 16. */
 struct eos_state_answer eos_start(const uint8_t *frame, size_t frame_len, uint8_t *out, size_t out_len);
 
-/* Takes the next pulled bytes, cut as they come: the bytes of reads[0], then those of reads[1] and so on. Of the state
- * only taken changes. Numbers 17, 18. */
-struct eos_state_answer eos_take_piece(struct eos_state f, const uint8_t *piece, size_t piece_len,
+/* Takes the next pulled bytes, cut as they come: the bytes of reads[0], then those of reads[1] and so on; an empty piece
+ * at any time. Of the state only taken changes. Numbers 17, 18. */
+struct eos_state_answer eos_take_piece(struct eos_state s, const uint8_t *piece, size_t piece_len,
                                        uint8_t *out, size_t out_len);
 
 /* Whether all bytes are in. Numbers 17, 19. */
-uint32_t eos_ask(struct eos_state f, const uint8_t *out, size_t out_len);
+uint32_t eos_ask(struct eos_state s, const uint8_t *out, size_t out_len);
 
 /* Where the message lies: the first part of the buffer; empty where eos_ask refuses. */
-struct eos_part eos_message(struct eos_state f, const uint8_t *out, size_t out_len);
+struct eos_part eos_message(struct eos_state s, const uint8_t *out, size_t out_len);
 
 #ifdef __cplusplus
 }

@@ -7,6 +7,7 @@ mod ffi;
 
 use std::fmt;
 
+/// Room that suffices for every message.
 pub const LONGEST_MESSAGE: usize = 1_048_576;
 /// Room that suffices for every header that is written.
 pub const LONGEST_HEADER: usize = 1024;
@@ -96,6 +97,7 @@ pub struct Header {
 }
 
 impl Header {
+    /// Reads the header of a frame.
     pub fn read(frame: &[u8]) -> Result<Header, Refusal> {
         let answer = unsafe { ffi::eos_read_header(frame.as_ptr(), frame.len()) };
         let flat = done(answer.number, answer.header)?;
@@ -195,6 +197,7 @@ impl Setup {
         done(answer.number, answer.length)
     }
 
+    /// The size for each direction, and whether remote invalidation may be used.
     pub fn agree(client: Setup, server: Setup) -> Result<Agreement, Refusal> {
         let answer = unsafe { ffi::eos_agree(client.into(), server.into()) };
         let agreement = Agreement {
@@ -212,7 +215,8 @@ pub fn grant(asked: u32, limit: u32) -> Result<u32, Refusal> {
     done(answer.number, answer.credit)
 }
 
-/// Writes the reply to a frame that was refused to the front of a buffer; empty where it gets none.
+/// Writes the reply to a frame that was refused to the front of a buffer; empty where it gets none, and nothing is to be
+/// sent. [`LONGEST_REPLY`] bytes suffice.
 pub fn error_reply<'a>(
     frame: &[u8],
     refusal: Refusal,
@@ -233,6 +237,7 @@ pub struct Assembly<'a> {
 }
 
 impl<'a> Assembly<'a> {
+    /// Starts the reassembly of a call in a buffer that holds its message, or [`LONGEST_MESSAGE`] bytes.
     pub fn start(frame: &[u8], out: &'a mut [u8]) -> Result<Assembly<'a>, Refusal> {
         let answer = unsafe { ffi::eos_start(frame.as_ptr(), frame.len(), out.as_mut_ptr(), out.len()) };
         done(answer.number, Assembly { state: answer.state, out })
@@ -246,6 +251,11 @@ impl<'a> Assembly<'a> {
     /// The number of bytes taken so far.
     pub fn taken(&self) -> usize {
         self.state.taken
+    }
+
+    /// The number of bytes still to be pulled.
+    pub fn remaining(&self) -> usize {
+        self.reads().iter().map(|read| read.target.length as usize).sum::<usize>() - self.state.taken
     }
 
     /// Takes the next pulled bytes, cut as they come. A refused piece changes nothing.
@@ -268,5 +278,13 @@ impl<'a> Assembly<'a> {
         let number = unsafe { ffi::eos_ask(self.state, self.out.as_ptr(), self.out.len()) };
         let part = unsafe { ffi::eos_message(self.state, self.out.as_ptr(), self.out.len()) };
         done(number, &self.out[part.offset..][..part.length])
+    }
+
+    /// The message for as long as the buffer was lent, once all bytes are in; else the assembly back, to go on with.
+    pub fn finish(self) -> Result<&'a [u8], (Refusal, Assembly<'a>)> {
+        match self.message().map(<[u8]>::len) {
+            Ok(length) => Ok(&self.out[..length]),
+            Err(refusal) => Err((refusal, self)),
+        }
     }
 }

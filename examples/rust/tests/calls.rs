@@ -98,3 +98,20 @@ fn the_other_calls() {
     assert_eq!(Setup::agree(client, odd), Err(Refusal(20)));
     assert_eq!(Refusal(14).to_string(), "a chunk's position overlaps or lies past the base");
 }
+
+#[test]
+fn a_message_outlives_its_assembly() {
+    fn received<'a>(frame: &[u8], buffer: &'a mut [u8]) -> &'a [u8] {
+        let mut assembly = Assembly::start(frame, buffer).unwrap();
+        assert_eq!(assembly.remaining(), 5);
+        assembly.take(&[0xa1, 0xa2]).unwrap();
+        assert_eq!(assembly.remaining(), 3);
+        let (refusal, mut assembly) = assembly.finish().unwrap_err();
+        assert_eq!(refusal, Refusal(19));
+        assembly.take(&[0xa3, 0xa4, 0xa5]).unwrap();
+        assembly.finish().unwrap()
+    }
+    let mut buffer = [0xee; 32];
+    let message = [1, 2, 3, 4, 5, 6, 7, 8, 0xa1, 0xa2, 0xa3, 0xa4, 0xa5, 0, 0, 0, 9, 10, 11, 12];
+    assert_eq!(received(&c6(), &mut buffer), message);
+}
