@@ -91,33 +91,13 @@ pub within-base : (base : ℕ) (cs : List Run) → stands base 0 0 cs ≡ true �
 unfolding basePlaces
 within-base base cs e = within-gaps _ 0 base cs (omega arith) (all-placed base cs e) (omega arith)
 
-pub within-places : (base : ℕ) (cs : List Run) → stands base 0 0 cs ≡ true → Within (messageLength base cs) (places cs)
-within-places base cs e = within-chunks _ 0 base cs (all-placed base cs e) (omega arith)
-
 -- How many places there are in all.
 pub length-based : (base : ℕ) (cs : List Run) → stands base 0 0 cs ≡ true → length (sourcePlaces true base cs) ≡ base + totalLength cs
 length-based base cs e = rw (length-append, length-base base cs e, length-places cs)
 
--- The run that a byte begins ends within the places.
-seek-most : (all : List ℕ) (k : ℕ) (r : Run) → Seeks all k r → k + r .length ≤ length all
-seek-most all k r s =
-    let some = s .some in
-    let long : length (drop k all) ≡ r .length + length (drop (k + r .length) all) = ap length (s .here) ∙ rw (length-append, length-from) in
-    omega (arith, length-drop k all, length-drop (k + r .length) all)
-
--- Places before or behind the run change nothing.
-pub seek-front : (ps qs : List ℕ) (k : ℕ) (r : Run) → Seeks ps k r → Seeks (ps ++ qs) k r
-seek-front ps qs k r s =
-    let most = seek-most ps k r s in
-    record { some = s .some; here = drop-append-le k ps qs (omega arith) ∙ rw (s .here, drop-append-le (k + r .length) ps qs most, append-assoc) }
-
+-- What is behind the first of two parts.
 drop-behind : (ps qs : List ℕ) (k : ℕ) → length ps ≤ k → drop k (ps ++ qs) ≡ drop (k - length ps) qs
 drop-behind ps qs k h = let e : k ≡ length ps + (k - length ps) = omega arith in ap (λ (n : ℕ). drop n (ps ++ qs)) e ∙ drop-append-add ps qs (k - length ps)
-
-pub seek-behind : (ps qs : List ℕ) (k : ℕ) (r : Run) → length ps ≤ k → Seeks qs (k - length ps) r → Seeks (ps ++ qs) k r
-seek-behind ps qs k r h s =
-    let e : k + r .length - length ps ≡ k - length ps + r .length = omega arith in
-    record { some = s .some; here = drop-behind ps qs k h ∙ rw (s .here, drop-behind ps qs (k + r .length) (omega arith), e) }
 
 -- The run that a byte begins lies in the buffer.
 within-drop : (n k : ℕ) (ps : List ℕ) → Within n ps → Within n (drop k ps)
