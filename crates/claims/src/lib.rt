@@ -1,1 +1,2 @@
-// No code: the theorems about headers, setup data and error replies, and the worked examples, over the definitions of the crates below.
+// No code: the theorems over the definitions of the crates below (the reassembly and its cuts, headers, setup data, error replies, the
+// exports) and the worked examples.
