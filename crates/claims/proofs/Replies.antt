@@ -90,12 +90,12 @@ no-reply frame out number limit some-limit known none-meant =
     simp (le-leb 1 limit some-limit, le-leb number 21 known, none-meant, le-leb 0 (length out) (omega arith)) (refl, refl)
 
 -- An error reply is itself never answered: two sides cannot go on answering each other.
-unanswered : (kind : ReplyKind) (xid credit answer : ℕ) → replyKindFor (words (replyWords kind xid credit)) answer ≡ reply.None
+unanswered : (kind : ReplyKind) (xid credit number : ℕ) → replyKindFor (words (replyWords kind xid credit)) number ≡ reply.None
 unfolding replyKindFor words joined wordBytes wordAt
-unanswered reply.None xid credit answer = refl
-unanswered reply.Version xid credit answer = refl
-unanswered reply.Chunk xid credit answer = refl
+unanswered reply.None xid credit number = refl
+unanswered reply.Version xid credit number = refl
+unanswered reply.Chunk xid credit number = refl
 
-pub reply-unanswered : (frame : List ℕ) (number limit answer : ℕ) → replyKindFor (errorReply frame number limit) answer ≡ reply.None
+pub reply-unanswered : (frame : List ℕ) (number limit later : ℕ) → replyKindFor (errorReply frame number limit) later ≡ reply.None
 unfolding errorReply
-reply-unanswered frame number limit answer = unanswered (replyKindFor frame number) (wordAt frame 0) (granted (wordAt frame 8) limit) answer
+reply-unanswered frame number limit later = unanswered (replyKindFor frame number) (wordAt frame 0) (granted (wordAt frame 8) limit) later

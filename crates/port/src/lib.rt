@@ -334,14 +334,14 @@ pub extern "C" fn eos_grant(asked: u32, limit: u32) -> GrantAnswer
 #[no_mangle]
 pub extern "C" fn eos_error_reply(
     frame: &[u8],
-    answer: u32,
+    number: u32,
     limit: u32,
     out: &mut [u8],
 ) -> WriteAnswer
-    ensures answer { λ r. ⌜ r ≡ errorReplyAnswer (now (frame .entry)) answer limit (length (now (out .entry))) ⌝ }
-    ensures buffer { λ _. ⌜ now (out .exit) ≡ errorReplyInto (now (frame .entry)) answer limit (now (out .entry)) ⌝ }
+    ensures answer { λ r. ⌜ r ≡ errorReplyAnswer (now (frame .entry)) number limit (length (now (out .entry))) ⌝ }
+    ensures buffer { λ _. ⌜ now (out .exit) ≡ errorReplyInto (now (frame .entry)) number limit (now (out .entry)) ⌝ }
 {
-    reply::error_reply(frame, answer, limit, out)
+    reply::error_reply(frame, number, limit, out)
 }
 
 // The state of a reassembly. The kind is 0 MSG or 1 NOMSG.

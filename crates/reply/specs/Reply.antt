@@ -33,8 +33,8 @@ replyKindOf n =
 
 -- "then no reply .. for a frame under 16 bytes or with procedure 4; then a small fixed table by number"
 unfoldable pub replyKindFor : List ℕ → ℕ → ReplyKind
-replyKindFor frame answer =
-    cond (leb 16 (length frame)) (cond (eqb (wordAt frame 12) 4) None (replyKindOf answer))
+replyKindFor frame number =
+    cond (leb 16 (length frame)) (cond (eqb (wordAt frame 12) 4) None (replyKindOf number))
     None
 
 -- "Version reply: xid, 1, grant, 4, 1, 1, 1 (28 bytes). Chunk reply: xid, 1, grant, 4, 2 (20 bytes)."
@@ -45,19 +45,19 @@ replyWords Chunk xid credit = xid ∷ 1 ∷ credit ∷ 4 ∷ 2 ∷ []
 
 -- The bytes of the reply to a frame that got an answer number; none where there is no reply.
 unfoldable pub errorReply : List ℕ → ℕ → ℕ → List ℕ
-errorReply frame answer limit = words (replyWords (replyKindFor frame answer) (wordAt frame 0) (granted (wordAt frame 8) limit))
+errorReply frame number limit = words (replyWords (replyKindFor frame number) (wordAt frame 0) (granted (wordAt frame 8) limit))
 
 -- "Checks: 20": "credit limit 0, .. an answer number above 21"; "then 16".
 unfoldable pub errorReplyNumber : List ℕ → ℕ → ℕ → ℕ → ℕ
-errorReplyNumber frame answer limit room =
-    check (leb 1 limit && leb answer 21) 20 (roomNumber (errorReply frame answer limit) room)
+errorReplyNumber frame number limit room =
+    check (leb 1 limit && leb number 21) 20 (roomNumber (errorReply frame number limit) room)
 
 -- "no reply (number 0, length 0, buffer unchanged)", or a reply's number and length.
 unfoldable pub errorReplyAnswer : List ℕ → ℕ → ℕ → ℕ → WriteAnswer
-errorReplyAnswer frame answer limit room =
-    writerAnswer (errorReplyNumber frame answer limit room) (errorReply frame answer limit)
+errorReplyAnswer frame number limit room =
+    writerAnswer (errorReplyNumber frame number limit room) (errorReply frame number limit)
 
 -- The buffer after the call.
 unfoldable pub errorReplyInto : List ℕ → ℕ → ℕ → List ℕ → List ℕ
-errorReplyInto frame answer limit out =
-    writerBuffer (errorReplyNumber frame answer limit (length out)) (errorReply frame answer limit) out
+errorReplyInto frame number limit out =
+    writerBuffer (errorReplyNumber frame number limit (length out)) (errorReply frame number limit) out

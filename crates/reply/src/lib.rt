@@ -82,24 +82,24 @@ pub fn grant(asked: u32, limit: u32) -> GrantAnswer
 }
 
 // The reply that the table has for an answer number.
-fn kind_of(answer: u32) -> ReplyKind
-    requires { ⌜ answer ≤ 21 ⌝ }
-    ensures { λ r. ⌜ r ≡ replyKindOf answer ⌝ }
+fn kind_of(number: u32) -> ReplyKind
+    requires { ⌜ number ≤ 21 ⌝ }
+    ensures { λ r. ⌜ r ≡ replyKindOf number ⌝ }
 {
-    let kind = REPLY_KINDS[answer as usize];
+    let kind = REPLY_KINDS[number as usize];
     kind
 }
 
 // The reply to a frame that got an answer number.
-fn kind_for(frame: &[u8], answer: u32) -> ReplyKind
-    requires { ⌜ (16 ≤ length (now frame)) × (answer ≤ 21) ⌝ }
-    ensures { λ r. ⌜ r ≡ replyKindFor (now (frame .entry)) answer ⌝ }
+fn kind_for(frame: &[u8], number: u32) -> ReplyKind
+    requires { ⌜ (16 ≤ length (now frame)) × (number ≤ 21) ⌝ }
+    ensures { λ r. ⌜ r ≡ replyKindFor (now (frame .entry)) number ⌝ }
 {
     // Two sides that answer each other's errors would never stop.
     if wire::word_at(frame, header::PROCEDURE_AT) == header::PROCEDURE_ERROR {
         return ReplyKind::None;
     }
-    kind_of(answer)
+    kind_of(number)
 }
 
 // Writes the words that both replies have.
@@ -155,20 +155,20 @@ fn put_reply(out: &mut [u8], kind: ReplyKind, xid: u32, credit: u32) -> WriteAns
 }
 
 // Writes the reply to a frame that got an answer number, if there is one, and keeps the bytes behind it.
-pub fn error_reply(frame: &[u8], answer: u32, limit: u32, out: &mut [u8]) -> WriteAnswer
-    ensures answer { λ r. ⌜ r ≡ errorReplyAnswer (now (frame .entry)) answer limit (length (now (out .entry))) ⌝ }
-    ensures buffer { λ _. ⌜ now (out .exit) ≡ errorReplyInto (now (frame .entry)) answer limit (now (out .entry)) ⌝ }
+pub fn error_reply(frame: &[u8], number: u32, limit: u32, out: &mut [u8]) -> WriteAnswer
+    ensures answer { λ r. ⌜ r ≡ errorReplyAnswer (now (frame .entry)) number limit (length (now (out .entry))) ⌝ }
+    ensures buffer { λ _. ⌜ now (out .exit) ≡ errorReplyInto (now (frame .entry)) number limit (now (out .entry)) ⌝ }
 {
     if limit == 0 {
         return wire::nothing_written(wire::BAD_ARGUMENT);
     }
-    if LAST_NUMBER < answer {
+    if LAST_NUMBER < number {
         return wire::nothing_written(wire::BAD_ARGUMENT);
     }
     if frame.len() < header::FIXED_BYTES {
         return wire::nothing_written(0);
     }
-    let kind = kind_for(frame, answer);
+    let kind = kind_for(frame, number);
     let xid = wire::word_at(frame, header::XID_AT);
     let asked = wire::word_at(frame, header::CREDIT_AT);
     put_reply(out, kind, xid, granted_credit(asked, limit))

@@ -108,7 +108,7 @@ extern "C" {
     pub fn eos_error_reply(
         frame: *const u8,
         frame_len: usize,
-        answer: u32,
+        number: u32,
         limit: u32,
         out: *mut u8,
         out_len: usize,
