@@ -17,10 +17,10 @@ use denote.Enum.Declared.{tagOf}
 use types.Run.{OneOf}
 use borrow.Author.Tests.{leb-true, lt-leb, eq-eqb, ne-eqb}
 use borrow.Author.Needs.{needs}
-use Rattle.wire.specs.Wire.{joined, wordBytes, segmentBytes, readSegmentBytes}
+use Rattle.wire.specs.Wire.{stored, joined, wordBytes, segmentBytes, readSegmentBytes}
 use Rattle.wire.specs.declared.Segment.{Segment}
 use Rattle.wire.specs.declared.ReadSegment.{ReadSegment}
-use Rattle.wire.proofs.Laws.{both-hold, check-passed}
+use Rattle.wire.proofs.Laws.{then, both-hold, check-passed}
 use Rattle.wire.proofs.Segment as segment
 use Rattle.wire.proofs.ReadSegment as read-segment
 use Rattle.wire.specs.Answers.{check}
@@ -82,6 +82,14 @@ joined-length f w e (x ∷ xs) = rw (length-append, e x, joined-length f w e xs)
 -- So many times that, of the first k elements.
 pub joined-take-length : {A B : Type 0} (f : A → List B) (w : ℕ) → ((x : A) → length (f x) ≡ w) → (xs : List A) (k : ℕ) → k ≤ length xs → length (joined f (take k xs)) ≡ k * w
 joined-take-length f w e xs k h = joined-length f w e (take k xs) ∙ rw (length-take-le k xs h)
+
+-- Elements written one behind the other in w bytes each, and then what stands behind them.
+pub stored-behind : {A B : Type 0} (f : A → List B) (w : ℕ) → ((x : A) → length (f x) ≡ w) → (xs : List A) (n k : ℕ) → n ≤ length xs → (before out after rest : List B) → out ≡ stored before k (joined f (take n xs)) → after ≡ stored out (k + n * w) rest → after ≡ stored before k (joined f (take n xs) ++ rest)
+stored-behind f w e xs n k h before out after rest p q = then before out after k (k + n * w) _ rest p q (rw (joined-take-length f w e xs n h))
+
+-- So with one element more: the step of a loop that writes them.
+pub stored-next : {A B : Type 0} (f : A → List B) (w : ℕ) → ((x : A) → length (f x) ≡ w) → (xs : List A) (z : A) (j k : ℕ) → j < length xs → (before out after : List B) → out ≡ stored before k (joined f (take j xs)) → after ≡ stored out (k + j * w) (f (getD xs j z)) → after ≡ stored before k (joined f (take (j + 1) xs))
+stored-next f w e xs z j k h before out after p q = rw (joined-next f xs j z h) (stored-behind f w e xs j k (omega arith) before out after _ p q)
 
 -- One run more: it is taken behind those that were.
 runs-snoc : {A : Type 0} (ns : List ℕ) (n : ℕ) (l : List A) → runs (ns ++ (n ∷ [])) l ≡ runs ns l ++ (take n (drop (total ns) l) ∷ [])

@@ -1,13 +1,13 @@
 -- `writer::put_reads` meets its contract.
 use mathlib.Core.Path.{_≡_, refl}
-use Prim.Native.Nat.{_+_, _*_, _≤_, _-_}
+use Prim.Native.Nat.{_≤_, _-_}
 use native.Mathlib.Omega.{arith}
 use lib.ListN.{length, take}
 use borrow.Author.Needs.{needs}
-use Rattle.wire.specs.Wire.{wordBytes, stored, joined, zeroSegment}
+use Rattle.wire.specs.Wire.{wordBytes, stored, joined, zeroReadSegment}
 use Rattle.wire.proofs.Laws.{then}
 use Rattle.writer.specs.Bytes.{entryBytes, readListBytes}
-use Rattle.writer.proofs.Laws.{joined-next, joined-take-length, entry-length}
+use Rattle.writer.proofs.Laws.{stored-next, stored-behind, entry-length}
 use Rattle.writer.proofs.put_reads.Statement.{statement}
 use Rattle.writer.proofs.put_reads.Tie as tie
 
@@ -57,10 +57,11 @@ loop-less c = search needs
 loop-again : tie.Need-loop-again Inv-loop μ-loop
 unfolding entryBytes wordBytes
 loop-again c =
-    let full : length (c .before .before .before .before .before .before .before .before .before .before .before .before .args .t3) ≡ 16 = search needs in
-    let place : c .before .before .before .before .before .before .before .before .before .before .before .before .args .k + length (joined entryBytes (take (c .before .before .before .before .before .before .before .before .before .before .loop .j) (c .before .before .before .before .before .before .before .before .before .before .before .before .args .t3))) ≡ c .before .before .before .before .before .before .before .before .before .before .before .before .args .k + c .before .before .before .before .before .before .before .before .before .before .loop .j * 24 =
-    rw (joined-take-length entryBytes 24 entry-length (c .before .before .before .before .before .before .before .before .before .before .before .before .args .t3) (c .before .before .before .before .before .before .before .before .before .before .loop .j) (omega arith)) in
-    (search needs, search needs, rw (joined-next entryBytes (c .before .before .before .before .before .before .before .before .before .before .before .before .args .t3) (c .before .before .before .before .before .before .before .before .before .before .loop .j) (record { position = 0; target = zeroSegment }) (omega arith)) (then _ _ _ _ _ _ _ (c .before .before .before .before .before .before .before .before .before .before .loop .inv .2) (then _ _ _ _ _ _ _ (c .before .before .before .before .before .before .put-word .ensures) (c .before .before .put-read-segment .ensures) refl) place))
+    let a = c .before .before .before .before .before .before .before .before .before .before .before .before .args in
+    let at = c .before .before .before .before .before .before .before .before .before .before .loop in
+    let full : length (a .t3) ≡ 16 = search needs in
+    let entry = then _ _ _ _ _ _ _ (c .before .before .before .before .before .before .put-word .ensures) (c .before .before .put-read-segment .ensures) refl in
+    (search needs, search needs, stored-next entryBytes 24 entry-length (a .t3) zeroReadSegment (at .j) (a .k) (omega arith) _ _ _ (at .inv .2) entry)
 
 mul-put-word-2 : tie.Need-mul-put-word-2 Inv-loop μ-loop
 mul-put-word-2 c = search needs
@@ -77,11 +78,11 @@ same-length c = search needs
 returns : tie.Need-returns Inv-loop μ-loop
 unfolding readListBytes
 returns c =
-    let full : length (c .before .before .before .before .before .before .before .args .t3) ≡ 16 = search needs in
-    let e : c .before .before .before .before .before .loop .j ≡ c .before .before .before .before .before .before .before .args .n = omega arith in
-    let place : c .before .before .before .before .before .before .before .args .k + length (joined entryBytes (take (c .before .before .before .before .before .before .before .args .n) (c .before .before .before .before .before .before .before .args .t3))) ≡ c .before .before .before .before .before .before .before .args .k + c .before .before .before .before .before .before .before .args .n * 24 =
-    rw (joined-take-length entryBytes 24 entry-length (c .before .before .before .before .before .before .before .args .t3) (c .before .before .before .before .before .before .before .args .n) (omega arith)) in
-    then _ _ _ _ _ _ _ (rw e at (c .before .before .before .before .before .loop .inv .2)) (c .before .before .put-word2 .ensures) place
+    let a = c .before .before .before .before .before .before .before .args in
+    let at = c .before .before .before .before .before .loop in
+    let full : length (a .t3) ≡ 16 = search needs in
+    let e : at .j ≡ a .n = omega arith in
+    stored-behind entryBytes 24 entry-length (a .t3) (a .n) (a .k) (omega arith) _ _ _ _ (rw e at (at .inv .2)) (c .before .before .put-word2 .ensures)
 
 pub put-reads-spec : {M : Type 1} → statement M
 put-reads-spec =

@@ -1,13 +1,12 @@
 -- `writer::put_segments` meets its contract.
 use mathlib.Core.Path.{_≡_, refl}
-use Prim.Native.Nat.{_+_, _*_, _<_, _≤_, _-_}
+use Prim.Native.Nat.{_≤_, _-_}
 use native.Mathlib.Omega.{arith}
 use lib.Seq.{getD-drop}
 use lib.ListN.{length-drop, length, take, drop}
 use borrow.Author.Needs.{needs}
 use Rattle.wire.specs.Wire.{stored, joined, segmentBytes, zeroSegment}
-use Rattle.wire.proofs.Laws.{then}
-use Rattle.writer.proofs.Laws.{joined-next, joined-take-length, segment-length}
+use Rattle.writer.proofs.Laws.{stored-next, segment-length}
 use Rattle.writer.proofs.put_segments.Statement.{statement}
 use Rattle.writer.proofs.put_segments.Tie as tie
 
@@ -47,11 +46,10 @@ loop-less c = search needs
 
 loop-again : tie.Need-loop-again Inv-loop μ-loop
 loop-again c =
-    let full : length (c .before .before .before .before .before .before .before .before .args .t3) ≡ 16 = search needs in
-    let below : c .before .before .before .before .before .before .loop .j < length (drop (c .before .before .before .before .before .before .before .before .args .i) (c .before .before .before .before .before .before .before .before .args .t3)) = rw length-drop (omega arith) in
-    let place : c .before .before .before .before .before .before .before .before .args .k + length (joined segmentBytes (take (c .before .before .before .before .before .before .loop .j) (drop (c .before .before .before .before .before .before .before .before .args .i) (c .before .before .before .before .before .before .before .before .args .t3)))) ≡ c .before .before .before .before .before .before .before .before .args .k + c .before .before .before .before .before .before .loop .j * 16 =
-    rw (joined-take-length segmentBytes 16 segment-length (drop (c .before .before .before .before .before .before .before .before .args .i) (c .before .before .before .before .before .before .before .before .args .t3)) (c .before .before .before .before .before .before .loop .j) (omega arith)) in
-    (search needs, search needs, rw (joined-next segmentBytes (drop (c .before .before .before .before .before .before .before .before .args .i) (c .before .before .before .before .before .before .before .before .args .t3)) (c .before .before .before .before .before .before .loop .j) zeroSegment below, getD-drop (c .before .before .before .before .before .before .before .before .args .i) (c .before .before .before .before .before .before .before .before .args .t3) (c .before .before .before .before .before .before .loop .j) zeroSegment) (then _ _ _ _ _ _ _ (c .before .before .before .before .before .before .loop .inv .2) (c .before .before .put-segment .ensures) place))
+    let a = c .before .before .before .before .before .before .before .before .args in
+    let at = c .before .before .before .before .before .before .loop in
+    let full : length (a .t3) ≡ 16 = search needs in
+    (search needs, search needs, stored-next segmentBytes 16 segment-length (drop (a .i) (a .t3)) zeroSegment (at .j) (a .k) (rw length-drop (omega arith)) _ _ _ (at .inv .2) (rw getD-drop (c .before .before .put-segment .ensures)))
 
 same-length : tie.Need-same-length Inv-loop μ-loop
 same-length c = search needs
