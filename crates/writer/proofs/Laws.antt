@@ -70,17 +70,17 @@ joined-snoc f [] x = append-nil (f x)
 joined-snoc f (y ∷ xs) x = rw (joined-snoc f xs x, append-assoc)
 
 -- The same of the first elements of a list.
-pub joined-next : {A B : Type 0} (f : A → List B) (xs : List A) (k : ℕ) (z : A) → k < length xs → joined f (take (k + 1) xs) ≡ joined f (take k xs) ++ f (getD xs k z)
+joined-next : {A B : Type 0} (f : A → List B) (xs : List A) (k : ℕ) (z : A) → k < length xs → joined f (take (k + 1) xs) ≡ joined f (take k xs) ++ f (getD xs k z)
 joined-next f xs k z h = rw (add-one, take-suc xs k z h) (joined-snoc f (take k xs) (getD xs k z))
 
 -- What f gives for every element has one length: so many times that.
-pub joined-length : {A B : Type 0} (f : A → List B) (w : ℕ) → ((x : A) → length (f x) ≡ w) → (xs : List A) → length (joined f xs) ≡ length xs * w
+joined-length : {A B : Type 0} (f : A → List B) (w : ℕ) → ((x : A) → length (f x) ≡ w) → (xs : List A) → length (joined f xs) ≡ length xs * w
 unfolding joined
 joined-length f w e [] = rw zero-mul
 joined-length f w e (x ∷ xs) = rw (length-append, e x, joined-length f w e xs) (omega (arith, suc-mul (length xs) w))
 
 -- So many times that, of the first k elements.
-pub joined-take-length : {A B : Type 0} (f : A → List B) (w : ℕ) → ((x : A) → length (f x) ≡ w) → (xs : List A) (k : ℕ) → k ≤ length xs → length (joined f (take k xs)) ≡ k * w
+joined-take-length : {A B : Type 0} (f : A → List B) (w : ℕ) → ((x : A) → length (f x) ≡ w) → (xs : List A) (k : ℕ) → k ≤ length xs → length (joined f (take k xs)) ≡ k * w
 joined-take-length f w e xs k h = joined-length f w e (take k xs) ∙ rw (length-take-le k xs h)
 
 -- Elements written one behind the other in w bytes each, and then what stands behind them.
@@ -112,7 +112,7 @@ unfolding entryBytes readSegmentBytes segmentBytes wordBytes
 entry-length x = refl
 
 -- How many bytes a chunk takes.
-pub chunk-length : (c : List Segment) → length (chunkBytes c) ≡ 8 + length c * 16
+chunk-length : (c : List Segment) → length (chunkBytes c) ≡ 8 + length c * 16
 unfolding chunkBytes countedBytes wordBytes
 chunk-length c = rw (joined-length segmentBytes 16 segment-length c) (omega arith)
 
@@ -125,17 +125,17 @@ chunks-length (n ∷ ns) l h =
     rw (length-append, chunk-length, length-take-le n l (omega arith), chunks-length ns (drop n l) few) (omega arith)
 
 -- How many bytes a read list takes.
-pub reads-length : (n : ℕ) (l : List ReadSegment) → n ≤ length l → length (readListBytes (take n l)) ≡ n * 24 + 4
+reads-length : (n : ℕ) (l : List ReadSegment) → n ≤ length l → length (readListBytes (take n l)) ≡ n * 24 + 4
 unfolding readListBytes wordBytes
 reads-length n l h = rw (length-append, joined-take-length entryBytes 24 entry-length l n h)
 
 -- How many bytes a write list takes.
-pub writes-length : (n : ℕ) (ns : List ℕ) (l : List Segment) → n ≤ length ns → total (take n ns) ≤ length l → length (writeListBytes (runs (take n ns) l)) ≡ n * 8 + total (take n ns) * 16 + 4
+writes-length : (n : ℕ) (ns : List ℕ) (l : List Segment) → n ≤ length ns → total (take n ns) ≤ length l → length (writeListBytes (runs (take n ns) l)) ≡ n * 8 + total (take n ns) * 16 + 4
 unfolding writeListBytes wordBytes
 writes-length n ns l few h = rw (length-append, chunks-length (take n ns) l h, length-take-le n ns few)
 
 -- How many bytes a reply chunk, or its absence, takes.
-pub replies-length : (present : Bool) (n : ℕ) (l : List Segment) → n ≤ length l → length (replyBytes (replyOf present (take n l))) ≡ cond present (8 + n * 16) 4
+replies-length : (present : Bool) (n : ℕ) (l : List Segment) → n ≤ length l → length (replyBytes (replyOf present (take n l))) ≡ cond present (8 + n * 16) 4
 unfolding replyBytes wordBytes
 replies-length false n l h = refl
 replies-length true n l h = rw (chunk-length, length-take-le n l h)
@@ -207,9 +207,9 @@ pub record Passed (reads : ReadList) (writes : WriteList) (reply : ReplyChunk) :
   pub few-chunks : writes .chunks ≤ 4
   pub few-segments : total (take (writes .chunks) (writes .counts)) ≤ 16
   pub few-replies : reply .count ≤ 16
+  pub size : length (partsOf reads writes reply) ≡ partsSize reads writes reply
   pub reads-bytes : length (readListBytes (take (reads .count) (reads .segments))) ≡ reads .count * 24 + 4
   pub writes-bytes : length (writeListBytes (runs (take (writes .chunks) (writes .counts)) (writes .segments))) ≡ writes .chunks * 8 + total (take (writes .chunks) (writes .counts)) * 16 + 4
-  pub reply-bytes : length (replyBytes (replyOf (reply .present) (take (reply .count) (reply .segments)))) ≡ cond (reply .present) (8 + reply .count * 16) 4
 
 -- The replies are few, be there a chunk or not.
 few-in : (present : Bool) (n : ℕ) → n ≤ cond present 16 0 → n ≤ 16
@@ -230,22 +230,21 @@ passed reads writes reply rs ws ps r w p h =
     let full = reads-full reads rs r in
     let whole = writes-full writes ws w in
     let all = reply-full reply ps p in
+    let reads-bytes = reads-length (reads .count) (reads .segments) (omega arith) in
+    let writes-bytes = writes-length (writes .chunks) (writes .counts) (writes .segments) (omega arith) (omega arith) in
+    let reply-bytes = replies-length (reply .present) (reply .count) (reply .segments) (omega arith) in
     record {
       few-reads = i;
       few-chunks = j;
       few-segments = k;
       few-replies = l;
-      reads-bytes = reads-length (reads .count) (reads .segments) (omega arith);
-      writes-bytes = writes-length (writes .chunks) (writes .counts) (writes .segments) (omega arith) (omega arith);
-      reply-bytes = replies-length (reply .present) (reply .count) (reply .segments) (omega arith);
+      size = simp (length-append, reads-bytes, writes-bytes, reply-bytes);
+      reads-bytes = reads-bytes;
+      writes-bytes = writes-bytes;
     }
 
--- How many bytes the three parts take.
-pub parts-length : (reads : ReadList) (writes : WriteList) (reply : ReplyChunk) → Passed reads writes reply → length (partsOf reads writes reply) ≡ partsSize reads writes reply
-parts-length reads writes reply known = simp (length-append, known .reads-bytes, known .writes-bytes, known .reply-bytes)
-
 -- The bytes of a header, from what comes behind its fixed words.
-pub header-of : (h : Header) (rest : List ℕ) → restBytes (h .kind) (partsOf (h .reads) (h .writes) (h .reply)) ≡ rest → headerBytes (contentOf h) ≡ fixedBytes (h .kind) (h .xid) (h .credit) ++ rest
+header-of : (h : Header) (rest : List ℕ) → restBytes (h .kind) (partsOf (h .reads) (h .writes) (h .reply)) ≡ rest → headerBytes (contentOf h) ≡ fixedBytes (h .kind) (h .xid) (h .credit) ++ rest
 unfolding headerBytes contentOf
 header-of h rest e = ap (λ t. fixedBytes (h .kind) (h .xid) (h .credit) ++ t) e
 
@@ -258,9 +257,13 @@ fixed-length kind xid credit = refl
 pub header-size : (h : Header) (rest : List ℕ) → restBytes (h .kind) (partsOf (h .reads) (h .writes) (h .reply)) ≡ rest → length (headerBytes (contentOf h)) ≡ 16 + length rest
 header-size h rest e = rw (header-of h rest e, length-append, fixed-length)
 
+-- A header is written: its fixed words, and behind them the rest.
+pub header-written : (h : Header) (rest : List ℕ) → restBytes (h .kind) (partsOf (h .reads) (h .writes) (h .reply)) ≡ rest → (before out after : List ℕ) (r : ℕ) → out ≡ stored before 0 (fixedBytes (h .kind) (h .xid) (h .credit)) → (r ≡ 16 + length rest) × (after ≡ stored out 16 rest) → (r ≡ length (headerBytes (contentOf h))) × (after ≡ stored before 0 (headerBytes (contentOf h)))
+header-written h rest e before out after r fixed p = (p .0 ∙ sym (header-size h rest e), rw (header-of h rest e) (then before out after 0 16 _ rest fixed (p .1) (rw fixed-length)))
+
 -- The length of a header, from what it is for parts of their length.
 pub sized : (h : Header) (r : ℕ) → Passed (h .reads) (h .writes) (h .reply) → ((parts : List ℕ) → length parts ≡ partsSize (h .reads) (h .writes) (h .reply) → r ≡ 16 + length (restBytes (h .kind) parts)) → length (headerBytes (contentOf h)) ≡ r
-sized h r known claim = header-size h _ refl ∙ sym (claim _ (parts-length (h .reads) (h .writes) (h .reply) known))
+sized h r known claim = header-size h _ refl ∙ sym (claim _ (known .size))
 
 -- Positions that give 0 were in order.
 pub positions-zero : (last : ℕ) (l : List ReadSegment) (next : ℕ) → positionsNumber last l next ≡ 0 → next ≡ 0

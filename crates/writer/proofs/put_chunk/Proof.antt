@@ -34,8 +34,9 @@ same-length c = search needs
 returns : tie.Need-returns
 unfolding chunkBytes countedBytes wordBytes
 returns c =
-    let full : length (c .before .before .before .before .before .before .before .before .before .before .before .before .before .args .segments) ≡ 16 = search needs in
-    let count : length (take (c .before .before .before .before .before .before .before .before .before .before .before .before .before .args .n) (drop (c .before .before .before .before .before .before .before .before .before .before .before .before .before .args .i) (c .before .before .before .before .before .before .before .before .before .before .before .before .before .args .segments))) ≡ c .before .before .before .before .before .before .before .before .before .before .before .before .before .args .n = length-take-le _ _ (rw length-drop (omega arith)) in
+    let a = c .before .before .before .before .before .before .before .before .before .before .before .before .before .args in
+    let full : length (a .segments) ≡ 16 = search needs in
+    let count : length (take (a .n) (drop (a .i) (a .segments))) ≡ a .n = length-take-le _ _ (rw length-drop (omega arith)) in
     rw count (then _ _ _ _ _ _ _ (then _ _ _ _ _ _ _ (c .before .before .before .before .before .before .before .before .before .before .put-word .ensures) (c .before .before .before .before .before .before .put-word2 .ensures) refl) (c .before .before .put-segments .ensures) refl)
 
 pub put-chunk-spec : {M : Type 1} → statement M

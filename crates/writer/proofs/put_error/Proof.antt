@@ -1,6 +1,9 @@
 -- `writer::put_error` meets its contract.
 use mathlib.Core.Path.{refl}
+use Prim.Native.Nat.{_+_, _≤_}
 use native.Mathlib.Omega.{arith}
+use denote.Ref.{now}
+use lib.ListN.{length}
 use borrow.Author.Needs.{needs}
 use Rattle.wire.specs.Wire.{wordBytes}
 use Rattle.wire.proofs.Laws.{then}
@@ -11,23 +14,25 @@ use Rattle.writer.proofs.put_error.Tie as tie
 enum-known-e : tie.Need-enum-known-e
 enum-known-e c = search needs
 
-put-word-requires : tie.Need-put-word-requires
+-- There is room for the three words of a version error.
+room : (c : tie.After-e) → c .before .before .before .args .k + 12 ≤ length (now (c .before .before .before .args .out))
 unfolding errorBytes wordBytes
-put-word-requires c κs = let h = simp (c .before .before .e .given .1) at (c .before .before .before .before .before .pre) in omega arith
+room c = simp (c .e .given .1) at (c .before .before .before .pre)
+
+put-word-requires : tie.Need-put-word-requires
+put-word-requires c κs = let h = room (c .before .before) in omega arith
 
 add-put-word : tie.Need-add-put-word
 add-put-word c = search needs
 
 put-word-requires-2 : tie.Need-put-word-requires-2
-unfolding errorBytes wordBytes
-put-word-requires-2 c κs = let h = simp (c .before .before .before .before .before .before .e .given .1) at (c .before .before .before .before .before .before .before .before .before .pre) in omega arith
+put-word-requires-2 c κs = let h = room (c .before .before .before .before .before .before) in omega arith
 
 add-put-word-2 : tie.Need-add-put-word-2
 add-put-word-2 c = search needs
 
 put-word-requires-3 : tie.Need-put-word-requires-3
-unfolding errorBytes wordBytes
-put-word-requires-3 c κs = let h = simp (c .before .before .before .before .before .before .before .before .before .before .e .given .1) at (c .before .before .before .before .before .before .before .before .before .before .before .before .before .pre) in omega arith
+put-word-requires-3 c κs = let h = room (c .before .before .before .before .before .before .before .before .before .before) in omega arith
 
 add-result : tie.Need-add-result
 add-result c = search needs

@@ -1,10 +1,8 @@
 -- `writer::put_header` meets its contract.
 use mathlib.Core.Path.{refl}
 use native.Mathlib.Omega.{arith}
-use lib.ListN.{length-append}
 use borrow.Author.Needs.{needs}
-use Rattle.wire.proofs.Laws.{then}
-use Rattle.writer.proofs.Laws.{header-of, header-size, fixed-length, not-error, an-error}
+use Rattle.writer.proofs.Laws.{header-size, header-written, not-error, an-error}
 use Rattle.writer.proofs.put_header.Statement.{statement}
 use Rattle.writer.proofs.put_header.Tie as tie
 
@@ -16,8 +14,8 @@ enum-known-kind c = search needs
 
 put-lists-requires : tie.Need-put-lists-requires
 put-lists-requires c κs =
-    let rest = not-error (c .before .before .before .before .before .before .before .before .before .before .args .h .kind) (c .before .before .before .before .match .keys2) _ in
-    let size = header-size (c .before .before .before .before .before .before .before .before .before .before .args .h) _ rest in
+    let h = c .before .before .before .before .before .before .before .before .before .before .args .h in
+    let size = header-size h _ (not-error (h .kind) (c .before .before .before .before .match .keys2) _) in
     (c .before .before .before .before .before .before .before .before .before .before .pre .0, omega arith)
 
 same-length : tie.Need-same-length
@@ -25,13 +23,13 @@ same-length c = search needs
 
 returns : tie.Need-returns
 returns c =
-    let rest = not-error (c .before .before .before .before .before .before .before .before .before .before .before .before .before .args .h .kind) (c .before .before .before .before .before .before .before .match .keys2) _ in
-    rw (header-of (c .before .before .before .before .before .before .before .before .before .before .before .before .before .args .h) _ rest) (rw (length-append, fixed-length) (c .before .before .put-lists .ensures .0), then _ _ _ _ _ _ _ (c .before .before .before .before .before .before .before .before .before .before .put-fixed .ensures) (c .before .before .put-lists .ensures .1) (rw fixed-length))
+    let h = c .before .before .before .before .before .before .before .before .before .before .before .before .before .args .h in
+    header-written h _ (not-error (h .kind) (c .before .before .before .before .before .before .before .match .keys2) _) _ _ _ _ (c .before .before .before .before .before .before .before .before .before .before .put-fixed .ensures) (c .before .before .put-lists .ensures)
 
 put-error-requires : tie.Need-put-error-requires
 put-error-requires c κs =
-    let rest = an-error (c .before .before .before .before .before .before .before .before .before .args .h .kind) (c .before .before .kind .given .0 .0) (c .before .before .kind .given .1) _ in
-    let size = header-size (c .before .before .before .before .before .before .before .before .before .args .h) _ rest in
+    let h = c .before .before .before .before .before .before .before .before .before .args .h in
+    let size = header-size h _ (an-error (h .kind) _ (c .before .before .kind .given .1) _) in
     search needs
 
 same-length-2 : tie.Need-same-length-2
@@ -39,8 +37,8 @@ same-length-2 c = search needs
 
 returns-2 : tie.Need-returns-2
 returns-2 c =
-    let rest = an-error (c .before .before .before .before .before .before .before .before .before .before .before .before .args .h .kind) (c .before .before .before .before .before .kind .given .0 .0) (c .before .before .before .before .before .kind .given .1) _ in
-    rw (header-of (c .before .before .before .before .before .before .before .before .before .before .before .before .args .h) _ rest) (rw (length-append, fixed-length) (c .before .before .put-error .ensures .0), then _ _ _ _ _ _ _ (c .before .before .before .before .before .before .before .before .before .put-fixed .ensures) (c .before .before .put-error .ensures .1) (rw fixed-length))
+    let h = c .before .before .before .before .before .before .before .before .before .before .before .before .args .h in
+    header-written h _ (an-error (h .kind) _ (c .before .before .before .before .before .kind .given .1) _) _ _ _ _ (c .before .before .before .before .before .before .before .before .before .put-fixed .ensures) (c .before .before .put-error .ensures)
 
 pub put-header-spec : {M : Type 1} → statement M
 put-header-spec =

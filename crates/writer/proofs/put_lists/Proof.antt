@@ -2,7 +2,7 @@
 use native.Mathlib.Omega.{arith}
 use borrow.Author.Needs.{needs}
 use Rattle.wire.proofs.Laws.{then}
-use Rattle.writer.proofs.Laws.{Passed, passed, parts-length}
+use Rattle.writer.proofs.Laws.{Passed, passed}
 use Rattle.writer.proofs.put_lists.Statement.{statement}
 use Rattle.writer.proofs.put_lists.Tie as tie
 
@@ -14,10 +14,7 @@ cast-n : tie.Need-cast-n
 cast-n c = search needs
 
 put-reads-requires : tie.Need-put-reads-requires
-put-reads-requires c κs =
-    let k = known (c .before .before .before .before) in
-    let size = parts-length (c .before .before .before .before .args .reads) (c .before .before .before .before .args .writes) (c .before .before .before .before .args .reply) k in
-    search needs
+put-reads-requires c κs = let k = known (c .before .before .before .before) in search needs
 
 mul-put-writes : tie.Need-mul-put-writes
 mul-put-writes c = search needs
@@ -29,19 +26,13 @@ cast-put-writes : tie.Need-cast-put-writes
 cast-put-writes c = search needs
 
 put-writes-requires : tie.Need-put-writes-requires
-put-writes-requires c κs =
-    let k = known (c .before .before .before .before .before .before .before .before .before .before .before) in
-    let size = parts-length (c .before .before .before .before .before .before .before .before .before .before .before .args .reads) (c .before .before .before .before .before .before .before .before .before .before .before .args .writes) (c .before .before .before .before .before .before .before .before .before .before .before .args .reply) k in
-    search needs
+put-writes-requires c κs = let k = known (c .before .before .before .before .before .before .before .before .before .before .before) in search needs
 
 cast-put-reply : tie.Need-cast-put-reply
 cast-put-reply c = search needs
 
 put-reply-requires : tie.Need-put-reply-requires
-put-reply-requires c κs =
-    let k = known (c .before .before .before .before .before .before .before .before .before .before .before .before .before .before .before .before .before) in
-    let size = parts-length (c .before .before .before .before .before .before .before .before .before .before .before .before .before .before .before .before .before .args .reads) (c .before .before .before .before .before .before .before .before .before .before .before .before .before .before .before .before .before .args .writes) (c .before .before .before .before .before .before .before .before .before .before .before .before .before .before .before .before .before .args .reply) k in
-    search needs
+put-reply-requires c κs = let k = known (c .before .before .before .before .before .before .before .before .before .before .before .before .before .before .before .before .before) in search needs
 
 same-length : tie.Need-same-length
 same-length c = search needs
@@ -49,7 +40,6 @@ same-length c = search needs
 returns : tie.Need-returns
 returns c =
     let k = known (c .before .before .before .before .before .before .before .before .before .before .before .before .before .before .before .before .before .before .before .before) in
-    let size = parts-length (c .before .before .before .before .before .before .before .before .before .before .before .before .before .before .before .before .before .before .before .before .args .reads) (c .before .before .before .before .before .before .before .before .before .before .before .before .before .before .before .before .before .before .before .before .args .writes) (c .before .before .before .before .before .before .before .before .before .before .before .before .before .before .before .before .before .before .before .before .args .reply) k in
     (omega arith, then _ _ _ _ _ _ _ (c .before .before .before .before .before .before .before .before .before .before .before .before .before .before .before .put-reads .ensures) (then _ _ _ _ _ _ _ (c .before .before .before .before .before .before .before .before .put-writes .ensures .1) (c .before .before .put-reply .ensures .1) (omega arith)) (omega arith))
 
 pub put-lists-spec : {M : Type 1} → statement M

@@ -24,15 +24,24 @@ abbrev μ-loop : tie.MeasureT-loop
 -- The segments of this chunk are among those of all.
 few : (c : tie.In-loop Inv-loop μ-loop) → total (take (c .before .loop .j) (c .before .before .before .args .t4)) + getD (c .before .before .before .args .t4) (c .before .loop .j) 0 ≤ total (take (c .before .before .before .args .n) (c .before .before .before .args .t4))
 few c =
-    let full : length (c .before .before .before .args .t4) ≡ 4 = search needs in
-    total-within (c .before .before .before .args .t4) (c .before .loop .j) (c .before .before .before .args .n) (c .loop-test .taken) (omega arith)
+    let a = c .before .before .before .args in
+    let full : length (a .t4) ≡ 4 = search needs in
+    total-within (a .t4) (c .before .loop .j) (a .n) (c .loop-test .taken) (omega arith)
 
 -- The first chunks end where the loop stands.
 place : (c : tie.At-loop Inv-loop μ-loop) → total (take (c .loop .j) (c .before .before .args .t4)) ≤ 16 → c .before .before .args .k + length (joined chunkBytes (runs (take (c .loop .j) (c .before .before .args .t4)) (c .before .before .args .segments))) ≡ c .loop .end
 place c h =
-    let full : length (c .before .before .args .t4) ≡ 4 = search needs in
-    let whole : length (c .before .before .args .segments) ≡ 16 = search needs in
-    rw (chunks-length (take (c .loop .j) (c .before .before .args .t4)) (c .before .before .args .segments) (omega arith), length-take-le (c .loop .j) (c .before .before .args .t4) (omega arith)) (omega arith)
+    let a = c .before .before .args in
+    let full : length (a .t4) ≡ 4 = search needs in
+    let whole : length (a .segments) ≡ 16 = search needs in
+    rw (chunks-length (take (c .loop .j) (a .t4)) (a .segments) (omega arith), length-take-le (c .loop .j) (a .t4) (omega arith)) (omega arith)
+
+-- Behind the loop those are all.
+all : (c : tie.After-loop Inv-loop μ-loop) → c .before .loop .j ≡ c .before .before .before .args .n
+all c = omega arith
+
+all-used : (c : tie.After-loop Inv-loop μ-loop) → c .before .loop .used ≡ total (take (c .before .before .before .args .n) (c .before .before .before .args .t4))
+all-used c = rw (← (all c)) (c .before .loop .inv .2)
 
 loop-holds : tie.Need-loop-holds Inv-loop μ-loop
 unfolding stored joined runs total
@@ -70,22 +79,18 @@ loop-less c = search needs
 
 loop-again : tie.Need-loop-again Inv-loop μ-loop
 loop-again c =
+    let a = c .before .before .before .before .before .before .before .args in
+    let at = c .before .before .before .before .before .loop in
     let h = few (c .before .before .before .before) in
-    let full : length (c .before .before .before .before .before .before .before .args .t4) ≡ 4 = search needs in
-    let next = total-next (c .before .before .before .before .before .before .before .args .t4) (c .before .before .before .before .before .loop .j) (omega arith) in
-    (search needs, search needs, omega arith, omega arith, rw (runs-next (c .before .before .before .before .before .before .before .args .t4) (c .before .before .before .before .before .loop .j) (c .before .before .before .before .before .before .before .args .segments) (omega arith), joined-snoc, ← (c .before .before .before .before .before .loop .inv .2)) (then _ _ _ _ _ _ _ (c .before .before .before .before .before .loop .inv .4) (c .before .before .put-chunk .ensures) (place (c .before .before .before .before .before) (omega arith))))
+    let full : length (a .t4) ≡ 4 = search needs in
+    let next = total-next (a .t4) (at .j) (omega arith) in
+    (search needs, search needs, omega arith, omega arith, rw (runs-next (a .t4) (at .j) (a .segments) (omega arith), joined-snoc, ← (at .inv .2)) (then _ _ _ _ _ _ _ (at .inv .4) (c .before .before .put-chunk .ensures) (place (c .before .before .before .before .before) (omega arith))))
 
 put-word-requires : tie.Need-put-word-requires Inv-loop μ-loop
-put-word-requires c κs =
-    let e : c .before .before .loop .j ≡ c .before .before .before .before .args .n = omega arith in
-    let all : total (take (c .before .before .loop .j) (c .before .before .before .before .args .t4)) ≡ total (take (c .before .before .before .before .args .n) (c .before .before .before .before .args .t4)) = rw e in
-    search needs
+put-word-requires c κs = let u = all-used (c .before) in search needs
 
 add-result : tie.Need-add-result Inv-loop μ-loop
-add-result c =
-    let e : c .before .before .before .before .before .loop .j ≡ c .before .before .before .before .before .before .before .args .n = omega arith in
-    let all : total (take (c .before .before .before .before .before .loop .j) (c .before .before .before .before .before .before .before .args .t4)) ≡ total (take (c .before .before .before .before .before .before .before .args .n) (c .before .before .before .before .before .before .before .args .t4)) = rw e in
-    search needs
+add-result c = let u = all-used (c .before .before .before .before) in search needs
 
 same-length : tie.Need-same-length Inv-loop μ-loop
 same-length c = search needs
@@ -93,9 +98,8 @@ same-length c = search needs
 returns : tie.Need-returns Inv-loop μ-loop
 unfolding writeListBytes
 returns c =
-    let e : c .before .before .before .before .before .loop .j ≡ c .before .before .before .before .before .before .before .args .n = omega arith in
-    let all : total (take (c .before .before .before .before .before .loop .j) (c .before .before .before .before .before .before .before .args .t4)) ≡ total (take (c .before .before .before .before .before .before .before .args .n) (c .before .before .before .before .before .before .before .args .t4)) = rw e in
-    (omega arith, rw (← e) (then _ _ _ _ _ _ _ (c .before .before .before .before .before .loop .inv .4) (c .before .before .put-word .ensures) (place (c .before .before .before .before .before) (omega arith))))
+    let u = all-used (c .before .before .before .before) in
+    (omega arith, rw (← (all (c .before .before .before .before))) (then _ _ _ _ _ _ _ (c .before .before .before .before .before .loop .inv .4) (c .before .before .put-word .ensures) (place (c .before .before .before .before .before) (omega arith))))
 
 pub put-writes-spec : {M : Type 1} → statement M
 put-writes-spec =
