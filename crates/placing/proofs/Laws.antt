@@ -11,7 +11,7 @@ use lib.Dec.{leb, ltb, eqb}
 use borrow.Author.Tests.{leb-true, leb-false, ltb-true, ltb-false, eqb-true, eqb-false}
 use Rattle.wire.specs.Wire.{stored}
 use Rattle.wire.specs.declared.ReadSegment.{ReadSegment}
-use Rattle.wire.proofs.Laws.{both-hold}
+use Rattle.wire.proofs.Laws.{both-hold, part-from}
 use Rattle.layout.specs.Places.{from, put}
 use Rattle.layout.specs.Layout.{run, otherChunks, roundedUp, roundedTotal, stands, places, gaps, paddings, paddingPlaces, basePlaces, messageLength}
 use Rattle.layout.specs.Walks.{totalLength, joinedRun, endedLength, remaining, Seeks}
@@ -54,15 +54,6 @@ within-from : (n k l : ℕ) → k + l ≤ n → Within n (from k l)
 unfolding Within from
 within-from n k zero h = tt
 within-from n k (suc l) h = (omega arith, within-from n (suc k) l (omega arith))
-
-within-chunks : (n end most : ℕ) (cs : List Run) → Placed end most cs → most + roundedTotal cs ≤ n → Within n (places cs)
-unfolding Placed roundedTotal places Within
-within-chunks n end most [] p h = tt
-within-chunks n end most (c ∷ cs) p h =
-    let up = rounded-most (c .length) .0 in
-    let near = p .1 in
-    within-append n (from (c .at) (c .length)) (places cs) (within-from n (c .at) (c .length) (omega arith))
-    (within-chunks n (c .at + roundedUp (c .length)) (most + roundedUp (c .length)) cs (p .2) (omega arith))
 
 within-gaps : (n start most : ℕ) (cs : List Run) → start ≤ most → Placed start most cs → most + roundedTotal cs ≤ n → Within n (places (gaps start n cs))
 unfolding Placed roundedTotal places gaps Within
@@ -116,7 +107,7 @@ pub seek-within : (n k : ℕ) (r : Run) (all : List ℕ) → Seeks all k r → W
 seek-within n k r all s w = from-within n (r .at) (r .length) (drop (k + r .length) all) (s .some) (rw (s .here) at (within-drop n k all w))
 
 -- m bytes more of a piece, stored from the first place of the run that they begin.
-pub placed-more : (all : List ℕ) (count j m : ℕ) (r : Run) (piece before out after : List ℕ) → Seeks all (count + j) r → j + m ≤ length piece → m ≤ r .length →
+placed-more : (all : List ℕ) (count j m : ℕ) (r : Run) (piece before out after : List ℕ) → Seeks all (count + j) r → j + m ≤ length piece → m ≤ r .length →
     out ≡ put (drop count all) (take j piece) before → after ≡ stored out (r .at) (take (j + m - j) (drop j piece)) →
     after ≡ put (drop count all) (take (j + m) piece) before
 placed-more all count j m r piece before out after s fits most now then =
@@ -125,7 +116,7 @@ placed-more all count j m r piece before out after s fits most now then =
     let front : length (take j piece) ≡ j = length-take-le j piece (omega arith) in
     then ∙ rw (f, take-add j m piece, put-append, front, drop-drop, ← now, s .here) (sym (put-run (r .at) (r .length) _ (take m (drop j piece)) out (omega arith)))
 
-pub part-length : (j m : ℕ) (piece : List ℕ) → j + m ≤ length piece → length (take (j + m - j) (drop j piece)) ≡ m
+part-length : (j m : ℕ) (piece : List ℕ) → j + m ≤ length piece → length (take (j + m - j) (drop j piece)) ≡ m
 part-length j m piece h = length-take-le (j + m - j) (drop j piece) (omega (arith, length-drop j piece)) ∙ omega arith
 
 -- The paddings of one chunk more.
@@ -268,25 +259,35 @@ placed-none all count j m at piece before out after z now then =
     let same : j + m ≡ j = omega arith in
     then ∙ rw (none, same) now
 
--- The last bytes.
+-- The last bytes: how many they are, and that they come to their places.
+pub rest-length : (j : ℕ) (piece : List ℕ) → length (take (length piece - j) (drop j piece)) ≡ length piece - j
+rest-length j piece = rw (part-from j piece, length-drop)
+
 pub placed-rest : (all : List ℕ) (count j : ℕ) (r : Run) (piece before out after : List ℕ) → Seeks all (count + j) r → j ≤ length piece → length piece - j ≤ r .length →
-    out ≡ put (drop count all) (take j piece) before → after ≡ stored out (r .at) (drop j piece) → after ≡ put (drop count all) piece before
+    out ≡ put (drop count all) (take j piece) before → after ≡ stored out (r .at) (take (length piece - j) (drop j piece)) → after ≡ put (drop count all) piece before
 placed-rest all count j r piece before out after s fits most now then =
     let whole : j + (length piece - j) ≡ length piece = omega arith in
-    let part : take (j + (length piece - j) - j) (drop j piece) ≡ drop j piece = (let e : j + (length piece - j) - j ≡ length (drop j piece) = omega (arith, length-drop j piece) in rw e (take-length (drop j piece))) in
-    placed-more all count j (length piece - j) r piece before out after s (omega arith) most now (then ∙ ap (stored out (r .at)) (sym part))
-    ∙ ap (λ (n : ℕ). put (drop count all) (take n piece) before) whole ∙ rw (take-length piece)
+    let part : j + (length piece - j) - j ≡ length piece - j = omega arith in
+    placed-more all count j (length piece - j) r piece before out after s (omega arith) most now (rw part then)
+    ∙ rw (whole, take-length piece)
 
-module _ (base : ℕ) (cs : List Run) (w : Run) (earlier : ℕ) (x : ReadSegment) (xs : List ReadSegment) (walk : Walk w (x ∷ xs)) (count j : ℕ) (s : GapSought base cs (count + j) earlier w (x ∷ xs)) (size : ℕ) (e : size ≡ roundedUp (endedLength w x)) (m : ℕ) (most : m ≤ x .position - (count + j + (earlier + size))) where
-  pub base-placed : (piece before out after : List ℕ) → j + m ≤ length piece → out ≡ put (drop count (basePlaces base cs)) (take j piece) before →
+-- A step of a walk over a read list: m bytes of a piece, behind its first j, are copied to a place. They end within the buffer and come to their own places; where the piece has more bytes, the next one is sought.
+pub record Copying (all : List ℕ) (count j m place : ℕ) (piece before out : List ℕ) (Next : Type 0) : Type 0 where
+  pub room : place + length (take (j + m - j) (drop j piece)) ≤ length out
+  pub placed : (after : List ℕ) → after ≡ stored out place (take (j + m - j) (drop j piece)) → after ≡ put (drop count all) (take (j + m) piece) before
+  pub next : j + m < length piece → Next
+
+-- The step of `place_base`.
+module _ (base : ℕ) (cs : List Run) (w : Run) (earlier : ℕ) (x : ReadSegment) (xs : List ReadSegment) (walk : Walk w (x ∷ xs)) (count j : ℕ) (s : GapSought base cs (count + j) earlier w (x ∷ xs)) (size : ℕ) (e : size ≡ roundedUp (endedLength w x)) (piece : List ℕ) (more : j < length piece) (m : ℕ) (share : m ≡ min (x .position - (count + j + (earlier + size))) (length piece - j)) where
+  base-placed : (before out after : List ℕ) → out ≡ put (drop count (basePlaces base cs)) (take j piece) before →
       after ≡ stored out (count + j + (earlier + size)) (take (j + m - j) (drop j piece)) → after ≡ put (drop count (basePlaces base cs)) (take (j + m) piece) before
-  base-placed piece before out after fits now then = by (ltb (count + j + (earlier + size)) (x .position)) refl
+  base-placed before out after now then = by (ltb (count + j + (earlier + size)) (x .position)) refl
     where
       by : (b : Bool) → ltb (count + j + (earlier + size)) (x .position) ≡ b → after ≡ put (drop count (basePlaces base cs)) (take (j + m) piece) before
-      by true t = placed-more _ count j m _ piece before out after (gap-here base cs (count + j) earlier w x xs walk s size e (ltb-true _ _ t)) fits most now then
+      by true t = placed-more _ count j m _ piece before out after (gap-here base cs (count + j) earlier w x xs walk s size e (ltb-true _ _ t)) (omega arith) (omega arith) now then
       by false t = let past = ltb-false (count + j + (earlier + size)) (x .position) t in placed-none _ count j m _ piece before out after (omega arith) now then
 
-  pub base-within : stands base 0 0 cs ≡ true → count + j ≤ base → count + j + (earlier + size) + m ≤ messageLength base cs
+  base-within : stands base 0 0 cs ≡ true → count + j ≤ base → count + j + (earlier + size) + m ≤ messageLength base cs
   base-within stand low = by (ltb (count + j + (earlier + size)) (x .position)) refl
     where
       by : (b : Bool) → ltb (count + j + (earlier + size)) (x .position) ≡ b → count + j + (earlier + size) + m ≤ messageLength base cs
@@ -299,33 +300,52 @@ module _ (base : ℕ) (cs : List Run) (w : Run) (earlier : ℕ) (x : ReadSegment
           let low-enough = gap-within base cs (count + j) earlier w x xs walk s size e past low in
           omega arith
 
-  pub base-next : m ≡ x .position - (count + j + (earlier + size)) → GapSought base cs (count + (j + m)) (earlier + size) (joinedRun w x) xs
-  base-next full =
+  base-next : j + m < length piece → GapSought base cs (count + (j + m)) (earlier + size) (joinedRun w x) xs
+  base-next further =
       let same : count + j + m ≡ count + (j + m) = omega arith in
       rw same at (gap-next base cs (count + j + m) earlier w x xs walk (gap-advance base cs (count + j) earlier m w (x ∷ xs) s) size e (omega arith))
 
-module _ (cs : List Run) (w : Run) (x : ReadSegment) (xs : List ReadSegment) (walk : Walk w (x ∷ xs)) (count j left : ℕ) (s : ChunkSought cs (count + j) left w (x ∷ xs)) (m : ℕ) (most : m ≤ endedLength w x - left) where
-  pub chunk-placed : (piece before out after : List ℕ) → j + m ≤ length piece → out ≡ put (drop count (places cs)) (take j piece) before →
-      after ≡ stored out (w .at + min left (endedLength w x)) (take (j + m - j) (drop j piece)) → after ≡ put (drop count (places cs)) (take (j + m) piece) before
-  chunk-placed piece before out after fits now then = by (ltb left (endedLength w x)) refl
-    where
-      by : (b : Bool) → ltb left (endedLength w x) ≡ b → after ≡ put (drop count (places cs)) (take (j + m) piece) before
-      by true t =
-          let lt = ltb-true left (endedLength w x) t in
-          let from-left : min left (endedLength w x) ≡ left = omega arith in
-          placed-more _ count j m _ piece before out after (chunk-here cs (count + j) left w x xs walk s lt) fits most now (rw from-left at then)
-      by false t = let past = ltb-false left (endedLength w x) t in placed-none _ count j m _ piece before out after (omega arith) now then
+  pub base-step : stands base 0 0 cs ≡ true → count + length piece ≤ base → (before out : List ℕ) → messageLength base cs ≤ length out → out ≡ put (drop count (basePlaces base cs)) (take j piece) before →
+      Copying (basePlaces base cs) count j m (count + j + (earlier + size)) piece before out (GapSought base cs (count + (j + m)) (earlier + size) (joinedRun w x) xs)
+  base-step stand all before out room now =
+      record {
+        room = rw (part-length j m piece (omega arith)) (omega (arith, base-within stand (omega arith)));
+        placed = λ after. base-placed before out after now;
+        next = base-next;
+      }
 
-  pub chunk-room : (base : ℕ) → stands base 0 0 cs ≡ true → Parted cs w (x ∷ xs) → w .at + min left (endedLength w x) + m ≤ messageLength base cs
-  chunk-room base stand p =
+-- The step of `place_chunks`.
+module _ (cs : List Run) (w : Run) (x : ReadSegment) (xs : List ReadSegment) (walk : Walk w (x ∷ xs)) (count j left : ℕ) (s : ChunkSought cs (count + j) left w (x ∷ xs)) (size : ℕ) (e : size ≡ endedLength w x) (piece : List ℕ) (more : j < length piece) (m : ℕ) (share : m ≡ min (size - left) (length piece - j)) where
+  chunk-placed : (before out after : List ℕ) → out ≡ put (drop count (places cs)) (take j piece) before →
+      after ≡ stored out (w .at + min left size) (take (j + m - j) (drop j piece)) → after ≡ put (drop count (places cs)) (take (j + m) piece) before
+  chunk-placed before out after now then = by (ltb left size) refl
+    where
+      by : (b : Bool) → ltb left size ≡ b → after ≡ put (drop count (places cs)) (take (j + m) piece) before
+      by true t =
+          let lt = ltb-true left size t in
+          let from-left : min left size ≡ left = omega arith in
+          placed-more _ count j m _ piece before out after (chunk-here cs (count + j) left w x xs walk s (omega arith)) (omega arith) (omega arith) now (rw from-left at then)
+      by false t = let past = ltb-false left size t in placed-none _ count j m _ piece before out after (omega arith) now then
+
+  chunk-within-all : (base : ℕ) → stands base 0 0 cs ≡ true → Parted cs w (x ∷ xs) → w .at + min left size + m ≤ messageLength base cs
+  chunk-within-all base stand p =
       let all = ended-within base cs w stand x xs walk p in
       let up = rounded-most (endedLength w x) .0 in
       omega arith
 
-  pub chunk-next-byte : m ≡ endedLength w x - left → count + (j + m) < totalLength cs → ChunkSought cs (count + (j + m)) (left + m - endedLength w x) (joinedRun w x) xs
-  chunk-next-byte full there =
+  chunk-onward : count + length piece ≤ totalLength cs → j + m < length piece → ChunkSought cs (count + (j + m)) (left + m - size) (joinedRun w x) xs
+  chunk-onward all further =
       let same : count + j + m ≡ count + (j + m) = omega arith in
-      rw same at (chunk-next cs (count + j + m) (left + m) w x xs walk (chunk-advance cs (count + j) left m w (x ∷ xs) (omega arith) s) (omega arith))
+      rw e (rw same at (chunk-next cs (count + j + m) (left + m) w x xs walk (chunk-advance cs (count + j) left m w (x ∷ xs) (omega arith) s) (omega arith)))
+
+  pub chunk-step : (base : ℕ) → stands base 0 0 cs ≡ true → Parted cs w (x ∷ xs) → count + length piece ≤ totalLength cs → (before out : List ℕ) → messageLength base cs ≤ length out → out ≡ put (drop count (places cs)) (take j piece) before →
+      Copying (places cs) count j m (w .at + min left size) piece before out (ChunkSought cs (count + (j + m)) (left + m - size) (joinedRun w x) xs)
+  chunk-step base stand p all before out room now =
+      record {
+        room = rw (part-length j m piece (omega arith)) (omega (arith, chunk-within-all base stand p));
+        placed = λ after. chunk-placed before out after now;
+        next = chunk-onward all;
+      }
 
 -- No sum on the way is too large.
 pub left-fits : (left m far j size count total message room most : ℕ) → left ≤ count → m ≡ min far (size - j) → count + size ≤ total → total ≤ message → message ≤ room → room < most → left + m < most

@@ -1,24 +1,22 @@
 -- `placing::place_base` meets its contract.
-use Rattle.placing.proofs.Laws.{placed-empty}
-use native.Mathlib.Nat.{add-zero}
-use Rattle.layout.specs.Layout.{basePlaces}
-use Rattle.placing.proofs.Laws.{base-placed, base-within, base-next, placed-rest, part-length, seek-within, within-base}
-use Rattle.layout.proofs.Seeking.{GapSought, gap-start, gap-last}
 use mathlib.Core.Path.{_≡_, refl, sym, ap, _∙_}
-use Prim.Native.Nat.{_+_, _-_, _≤_, _<_}
-use native.Mathlib.Nat.{add-assoc}
+use mathlib.Core.List.{List}
+use Prim.Native.Nat.{_+_, _-_, _≤_, _<_, min}
+use native.Mathlib.Nat.{add-zero, add-assoc}
 use native.Mathlib.Omega.{arith}
 use borrow.Author.Needs.{needs}
 use denote.Ref.{now}
 use lib.Seq.{take-length}
-use lib.ListN.{length, take, drop, getD, length-drop}
-use Rattle.wire.proofs.Laws.{part-from}
+use lib.ListN.{length, take, drop, getD}
 use Rattle.wire.specs.Wire.{zeroReadSegment}
 use Rattle.layout.specs.Places.{put}
-use Rattle.layout.specs.Walks.{endedLength}
-use Rattle.layout.specs.Layout.{otherChunks, roundedUp}
+use Rattle.layout.specs.Walks.{endedLength, joinedRun, Seeks}
+use Rattle.layout.specs.Layout.{run, otherChunks, roundedUp, basePlaces}
+use Rattle.layout.specs.declared.Run.{Run}
 use Rattle.layout.proofs.Putting.{length-put, put-none}
-use Rattle.layout.proofs.Remaining.{Along, along-start, here, behind-all}
+use Rattle.layout.proofs.Remaining.{Along, along-start, Here, here, Behind, behind-all}
+use Rattle.layout.proofs.Seeking.{GapSought, gap-start, gap-last}
+use Rattle.placing.proofs.Laws.{placed-empty, Copying, base-step, rest-length, placed-rest, seek-within, within-base}
 use Rattle.placing.proofs.place_base.Statement.{statement}
 use Rattle.placing.proofs.place_base.Tie as tie
 
@@ -29,6 +27,42 @@ Inv-loop out₀ piece n base count segments size w₀ earlier₀ j₀ i₀ out w
 
 abbrev μ-loop : tie.MeasureT-loop
 μ-loop out₀ piece n base count segments size w₀ earlier₀ j₀ i₀ out w earlier j i = n - i
+
+-- The entry of the function, and the chunks of the read list.
+abbrev entry : tie.At-loop Inv-loop μ-loop → tie.Start Inv-loop μ-loop
+entry c = c .before .before .before .before
+
+abbrev chunks : tie.At-loop Inv-loop μ-loop → List Run
+chunks c = otherChunks (take (entry c .args .n) (entry c .args .t3))
+
+-- What is known at a segment, and behind the last.
+known : (c : tie.In-loop Inv-loop μ-loop) → Here (entry (c .before) .args .n) (c .before .loop .i) (c .before .loop .earlier) (entry (c .before) .args .t3) (c .before .loop .w)
+known c = let at = c .before .loop in here _ (at .i) _ _ (at .w) (search needs) (entry (c .before) .pre .0) (at .inv .1) (c .loop-test .taken)
+
+behind : (c : tie.After-loop Inv-loop μ-loop) → Behind (entry (c .before) .args .n) (c .before .loop .i) (c .before .loop .earlier) (entry (c .before) .args .t3) (c .before .loop .w)
+behind c = let at = c .before .loop in behind-all _ (at .i) _ _ (at .w) (search needs) (entry (c .before) .pre .0) (at .inv .1) (omega arith) (at .inv .0)
+
+-- The bytes that go before the segment.
+step : (c : tie.After-least Inv-loop μ-loop) →
+    Copying (basePlaces (entry (c .before .before .before .before .before .before .before) .args .base) (chunks (c .before .before .before .before .before .before .before))) (entry (c .before .before .before .before .before .before .before) .args .count) (c .before .before .before .before .before .before .before .loop .j) (c .least .result) (entry (c .before .before .before .before .before .before .before) .args .count + c .before .before .before .before .before .before .before .loop .j + (c .before .before .before .before .before .before .before .loop .earlier + c .before .before .rounded .result)) (now (entry (c .before .before .before .before .before .before .before) .args .piece)) (now (entry (c .before .before .before .before .before .before .before) .args .out)) (c .before .before .before .before .before .before .before .loop .out)
+    (GapSought (entry (c .before .before .before .before .before .before .before) .args .base) (chunks (c .before .before .before .before .before .before .before)) (entry (c .before .before .before .before .before .before .before) .args .count + (c .before .before .before .before .before .before .before .loop .j + c .least .result)) (c .before .before .before .before .before .before .before .loop .earlier + c .before .before .rounded .result) (joinedRun (c .before .before .before .before .before .before .before .loop .w) (getD (entry (c .before .before .before .before .before .before .before) .args .t3) (c .before .before .before .before .before .before .before .loop .i) zeroReadSegment)) (drop (c .before .before .before .before .before .before .before .loop .i + 1) (take (entry (c .before .before .before .before .before .before .before) .args .n) (entry (c .before .before .before .before .before .before .before) .args .t3))))
+step c =
+    let a = entry (c .before .before .before .before .before .before .before) .args in
+    let pre = entry (c .before .before .before .before .before .before .before) .pre in
+    let at = c .before .before .before .before .before .before .before .loop in
+    let h = known (c .before .before .before .before .before .before) in
+    let x = getD (a .t3) (at .i) zeroReadSegment in
+    let size : c .before .before .rounded .result ≡ roundedUp (endedLength (at .w) x) = rw (← (c .before .before .before .ended .ensures)) (c .before .before .rounded .ensures .0) in
+    let share : c .least .result ≡ min (x .position - (a .count + at .j + (at .earlier + c .before .before .rounded .result))) (length (now (a .piece)) - at .j) = rw (← (c .before .before .before .before .wide .ensures .0), ← (c .before .ahead .ensures)) (c .least .ensures) in
+    base-step (a .base) _ (at .w) (at .earlier) x _ (h .walk) (a .count) (at .j) (rw (h .rest) at (at .inv .5)) _ size (now (a .piece)) (at .inv .3) _ share (pre .1 .stand) (pre .3) _ (at .out) (rw (at .inv .2) (pre .2)) (at .inv .4)
+
+-- The run of the last bytes.
+last : (c : tie.After-rounded2 Inv-loop μ-loop) → Seeks (basePlaces (entry (c .before .before) .args .base) (chunks (c .before .before))) (entry (c .before .before) .args .count + c .before .before .loop .j) (run (entry (c .before .before) .args .count + c .before .before .loop .j + (c .before .before .loop .earlier + c .rounded2 .result)) (entry (c .before .before) .args .base - (entry (c .before .before) .args .count + c .before .before .loop .j)))
+last c =
+    let h = behind (c .before) in
+    let at = c .before .before .loop in
+    let more = at .inv .3 in
+    gap-last _ _ _ _ _ (at .w) (h .walk) (omega arith) (c .rounded2 .ensures .0) (rw (h .none) at (at .inv .5))
 
 returns : tie.Need-returns Inv-loop μ-loop
 returns c = placed-empty _ (now (c .before .before .before .args .piece)) _ (c .if1 .taken)
@@ -49,37 +83,18 @@ ended-requires : tie.Need-ended-requires Inv-loop μ-loop
 ended-requires c κs = search needs
 
 rounded-requires : tie.Need-rounded-requires Inv-loop μ-loop
-rounded-requires c κs =
-    let a = c .before .before .before .before .before .before .before .before .args in
-    let at = c .before .before .before .before .loop in
-    let h = here (a .n) (at .i) _ (a .t3) (at .w) (search needs) (c .before .before .before .before .before .before .before .before .pre .0) (at .inv .1) (c .before .before .before .loop-test .taken) in
-    rw (c .ended .ensures) (omega arith)
+rounded-requires c κs = let h = known (c .before .before .before) in rw (c .ended .ensures) (omega arith)
 
 add-earlier : tie.Need-add-earlier Inv-loop μ-loop
-add-earlier c =
-    let a = c .before .before .before .before .before .before .before .before .before .args in
-    let at = c .before .before .before .before .before .loop in
-    let h = here (a .n) (at .i) _ (a .t3) (at .w) (search needs) (c .before .before .before .before .before .before .before .before .before .pre .0) (at .inv .1) (c .before .before .before .before .loop-test .taken) in
-    let r = c .rounded .ensures .2 in
-    let e = c .before .ended .ensures in
-    omega arith
+add-earlier c = let h = known (c .before .before .before .before) in let r = c .rounded .ensures .2 in let e = c .before .ended .ensures in omega arith
 
 add-here : tie.Need-add-here Inv-loop μ-loop
-add-here c =
-    let a = c .before .before .before .before .before .before .before .before .before .args in
-    let laid = c .before .before .before .before .before .before .before .before .before .pre .1 in
-    let at = c .before .before .before .before .before .loop in
-    let h = here (a .n) (at .i) _ (a .t3) (at .w) (search needs) (c .before .before .before .before .before .before .before .before .before .pre .0) (at .inv .1) (c .before .before .before .before .loop-test .taken) in
-    let small = laid .small in
-    omega arith
+add-here c = let h = known (c .before .before .before .before) in let small = entry (c .before .before .before .before .before) .pre .1 .small in omega arith
 
 add-here-2 : tie.Need-add-here-2 Inv-loop μ-loop
 add-here-2 c =
-    let a = c .before .before .before .before .before .before .before .before .before .args in
-    let laid = c .before .before .before .before .before .before .before .before .before .pre .1 in
-    let at = c .before .before .before .before .before .loop in
-    let h = here (a .n) (at .i) _ (a .t3) (at .w) (search needs) (c .before .before .before .before .before .before .before .before .before .pre .0) (at .inv .1) (c .before .before .before .before .loop-test .taken) in
-    let small = laid .small in
+    let h = known (c .before .before .before .before) in
+    let small = entry (c .before .before .before .before .before) .pre .1 .small in
     let r = c .rounded .ensures .2 in
     let e = c .before .ended .ensures in
     omega arith
@@ -106,43 +121,16 @@ part-copy-at-end : tie.Need-part-copy-at-end Inv-loop μ-loop
 part-copy-at-end c = let more = c .before .before .before .before .before .before .before .before .loop .inv .3 in let near = c .before .least .ensures in omega arith
 
 copy-at-requires : tie.Need-copy-at-requires Inv-loop μ-loop
-copy-at-requires c κs =
-    let a = c .before .before .before .before .before .before .before .before .before .before .before .before .before .args in
-    let laid = c .before .before .before .before .before .before .before .before .before .before .before .before .before .pre .1 in
-    let at = c .before .before .before .before .before .before .before .before .before .loop in
-    let h = here (a .n) (at .i) _ (a .t3) (at .w) (search needs) (c .before .before .before .before .before .before .before .before .before .before .before .before .before .pre .0) (at .inv .1) (c .before .before .before .before .before .before .before .before .loop-test .taken) in
-    let x = getD (a .t3) (at .i) zeroReadSegment in
-    let sought = rw (h .rest) at (at .inv .5) in
-    let size : c .before .before .before .before .rounded .result ≡ roundedUp (endedLength (at .w) x) = rw (← (c .before .before .before .before .before .ended .ensures)) (c .before .before .before .before .rounded .ensures .0) in
-    let position = c .before .before .before .before .before .before .wide .ensures .0 in
-    let m : c .before .before .least .result ≤ x .position - (a .count + at .j + (at .earlier + c .before .before .before .before .rounded .result)) = (let far = c .before .before .before .ahead .ensures in let near = c .before .before .least .ensures in omega arith) in
-    let part = part-length (at .j) (c .before .before .least .result) (now (a .piece)) (let near = c .before .before .least .ensures in omega arith) in
-    let within = base-within (a .base) _ (at .w) (at .earlier) x _ (h .walk) (a .count) (at .j) sought _ size _ m (laid .stand) (omega arith) in
-    omega arith
+copy-at-requires c κs = step (c .before .before) .room
 
 same-length : tie.Need-same-length Inv-loop μ-loop
 same-length c = search needs
 
 returns-2 : tie.Need-returns-2 Inv-loop μ-loop
-returns-2 c =
-    let a = c .before .before .before .before .before .before .before .before .before .before .before .before .before .before .before .before .before .args in
-    let at = c .before .before .before .before .before .before .before .before .before .before .before .before .before .loop in
-    let h = here (a .n) (at .i) _ (a .t3) (at .w) (search needs) (c .before .before .before .before .before .before .before .before .before .before .before .before .before .before .before .before .before .pre .0) (at .inv .1) (c .before .before .before .before .before .before .before .before .before .before .before .before .loop-test .taken) in
-    let x = getD (a .t3) (at .i) zeroReadSegment in
-    let sought = rw (h .rest) at (at .inv .5) in
-    let size : c .before .before .before .before .before .before .before .before .rounded .result ≡ roundedUp (endedLength (at .w) x) = rw (← (c .before .before .before .before .before .before .before .before .before .ended .ensures)) (c .before .before .before .before .before .before .before .before .rounded .ensures .0) in
-    let position = c .before .before .before .before .before .before .before .before .before .before .wide .ensures .0 in
-    let m : c .before .before .before .before .before .before .least .result ≤ x .position - (a .count + at .j + (at .earlier + c .before .before .before .before .before .before .before .before .rounded .result)) = (let far = c .before .before .before .before .before .before .before .ahead .ensures in let near = c .before .before .before .before .before .before .least .ensures in omega arith) in
-    let after = base-placed (a .base) _ (at .w) (at .earlier) x _ (h .walk) (a .count) (at .j) sought _ size _ m (now (a .piece)) (now (a .out)) (at .out) _ (let near = c .before .before .before .before .before .before .least .ensures in omega arith) (at .inv .4) (c .before .before .before .copy-at .ensures) in
-    let all = c .if2 .taken in
-    after ∙ rw (all, take-length)
+returns-2 c = step (c .before .before .before .before .before .before) .placed _ (c .before .before .before .copy-at .ensures) ∙ rw (c .if2 .taken, take-length)
 
 joined-requires : tie.Need-joined-requires Inv-loop μ-loop
-joined-requires c κs =
-    let a = c .before .before .before .before .before .before .before .before .before .before .before .before .before .before .before .before .before .args in
-    let at = c .before .before .before .before .before .before .before .before .before .before .before .before .before .loop in
-    let h = here (a .n) (at .i) _ (a .t3) (at .w) (search needs) (c .before .before .before .before .before .before .before .before .before .before .before .before .before .before .before .before .before .pre .0) (at .inv .1) (c .before .before .before .before .before .before .before .before .before .before .before .before .loop-test .taken) in
-    omega arith
+joined-requires c κs = let h = known (c .before .before .before .before .before .before .before .before .before .before .before .before) in omega arith
 
 add-i : tie.Need-add-i Inv-loop μ-loop
 add-i c = search needs
@@ -152,61 +140,26 @@ loop-less c = let lt = c .before .before .before .before .before .before .before
 
 loop-again : tie.Need-loop-again Inv-loop μ-loop
 loop-again c =
-    let a = c .before .before .before .before .before .before .before .before .before .before .before .before .before .before .before .before .before .before .args in
-    let laid = c .before .before .before .before .before .before .before .before .before .before .before .before .before .before .before .before .before .before .pre .1 in
-    let room = c .before .before .before .before .before .before .before .before .before .before .before .before .before .before .before .before .before .before .pre .2 in
-    let fits = c .before .before .before .before .before .before .before .before .before .before .before .before .before .before .before .before .before .before .pre .3 in
     let at = c .before .before .before .before .before .before .before .before .before .before .before .before .before .before .loop in
-    let h = here (a .n) (at .i) _ (a .t3) (at .w) (search needs) (c .before .before .before .before .before .before .before .before .before .before .before .before .before .before .before .before .before .before .pre .0) (at .inv .1) (c .before .before .before .before .before .before .before .before .before .before .before .before .before .loop-test .taken) in
-    let same = at .inv .2 in
-    let more = at .inv .3 in
-    let x = getD (a .t3) (at .i) zeroReadSegment in
-    let sought = rw (h .rest) at (at .inv .5) in
-    let size : c .before .before .before .before .before .before .before .before .before .rounded .result ≡ roundedUp (endedLength (at .w) x) = rw (← (c .before .before .before .before .before .before .before .before .before .before .ended .ensures)) (c .before .before .before .before .before .before .before .before .before .rounded .ensures .0) in
-    let position = c .before .before .before .before .before .before .before .before .before .before .before .wide .ensures .0 in
-    let m : c .before .before .before .before .before .before .before .least .result ≤ x .position - (a .count + at .j + (at .earlier + c .before .before .before .before .before .before .before .before .before .rounded .result)) = (let far = c .before .before .before .before .before .before .before .before .ahead .ensures in let near = c .before .before .before .before .before .before .before .least .ensures in omega arith) in
-    let after = base-placed (a .base) _ (at .w) (at .earlier) x _ (h .walk) (a .count) (at .j) sought _ size _ m (now (a .piece)) (now (a .out)) (at .out) _ (let near = c .before .before .before .before .before .before .before .least .ensures in omega arith) (at .inv .4) (c .before .before .before .before .copy-at .ensures) in
-    let far = c .before .before .before .before .before .before .before .before .ahead .ensures in
-    let near = c .before .before .before .before .before .before .before .least .ensures in
-    let left = c .before .if2 .left in
+    let h = known (c .before .before .before .before .before .before .before .before .before .before .before .before .before) in
+    let s = step (c .before .before .before .before .before .before .before) in
+    let after = s .placed _ (c .before .before .before .before .copy-at .ensures) in
+    let further : at .j + c .before .before .before .before .before .before .before .least .result < length (now (entry (c .before .before .before .before .before .before .before .before .before .before .before .before .before .before) .args .piece)) = (let more = at .inv .3 in let near = c .before .before .before .before .before .before .before .least .ensures in let left = c .before .if2 .left in omega arith) in
+    let grown = rw (c .before .before .before .before .before .before .before .before .before .before .ended .ensures) at (c .before .before .before .before .before .before .before .before .before .rounded .ensures .2) in
     let joined = c .joined .ensures in
-    let grown : c .before .before .before .before .before .before .before .before .before .rounded .result ≤ endedLength (at .w) x + 3 = rw (← (c .before .before .before .before .before .before .before .before .before .before .ended .ensures)) (c .before .before .before .before .before .before .before .before .before .rounded .ensures .2) in
-    (search needs, h .onward _ _ grown (joined .0) (joined .1), ap length after ∙ length-put _ _ _, omega arith, after, rw (joined .0) (base-next (a .base) _ (at .w) (at .earlier) x _ (h .walk) (a .count) (at .j) sought _ size _ m (omega arith)))
+    (search needs, h .onward _ _ grown (joined .0) (joined .1), ap length after ∙ length-put _ _ _, further, after, rw (joined .0) (s .next further))
 
 add-here-3 : tie.Need-add-here-3 Inv-loop μ-loop
-add-here-3 c =
-    let a = c .before .before .before .before .before .args in
-    let laid = c .before .before .before .before .before .pre .1 in
-    let at = c .before .loop in
-    let h = behind-all (a .n) (at .i) _ (a .t3) (at .w) (search needs) (c .before .before .before .before .before .pre .0) (at .inv .1) (omega arith) (at .inv .0) in
-    let small = laid .small in
-    omega arith
+add-here-3 c = let h = behind c in let small = entry (c .before) .pre .1 .small in omega arith
 
 add-here-4 : tie.Need-add-here-4 Inv-loop μ-loop
-add-here-4 c =
-    let a = c .before .before .before .before .before .args in
-    let laid = c .before .before .before .before .before .pre .1 in
-    let at = c .before .loop in
-    let h = behind-all (a .n) (at .i) _ (a .t3) (at .w) (search needs) (c .before .before .before .before .before .pre .0) (at .inv .1) (omega arith) (at .inv .0) in
-    let small = laid .small in
-    omega arith
+add-here-4 c = let h = behind c in let small = entry (c .before) .pre .1 .small in omega arith
 
 rounded-requires-2 : tie.Need-rounded-requires-2 Inv-loop μ-loop
-rounded-requires-2 c κs =
-    let a = c .before .before .before .before .before .args in
-    let at = c .before .loop in
-    let h = behind-all (a .n) (at .i) _ (a .t3) (at .w) (search needs) (c .before .before .before .before .before .pre .0) (at .inv .1) (omega arith) (at .inv .0) in
-    omega arith
+rounded-requires-2 c κs = let h = behind c in omega arith
 
 add-here-5 : tie.Need-add-here-5 Inv-loop μ-loop
-add-here-5 c =
-    let a = c .before .before .before .before .before .before .args in
-    let laid = c .before .before .before .before .before .before .pre .1 in
-    let at = c .before .before .loop in
-    let h = behind-all (a .n) (at .i) _ (a .t3) (at .w) (search needs) (c .before .before .before .before .before .before .pre .0) (at .inv .1) (omega arith) (at .inv .0) in
-    let small = laid .small in
-    let r = c .rounded2 .ensures .2 in
-    omega arith
+add-here-5 c = let h = behind (c .before) in let small = entry (c .before .before) .pre .1 .small in let r = c .rounded2 .ensures .2 in omega arith
 
 sub-copy-at-2 : tie.Need-sub-copy-at-2 Inv-loop μ-loop
 sub-copy-at-2 c = search needs
@@ -219,24 +172,19 @@ part-copy-at-end-2 c = search needs
 
 copy-at-requires-2 : tie.Need-copy-at-requires-2 Inv-loop μ-loop
 copy-at-requires-2 c κs =
-    let a = c .before .before .before .before .before .before .before .before .args in
-    let laid = c .before .before .before .before .before .before .before .before .pre .1 in
-    let at = c .before .before .before .before .loop in
-    let h = behind-all (a .n) (at .i) _ (a .t3) (at .w) (search needs) (c .before .before .before .before .before .before .before .before .pre .0) (at .inv .1) (omega arith) (at .inv .0) in
-    let s = gap-last (a .base) _ _ _ _ (at .w) (h .walk) (omega arith) (c .before .before .rounded2 .ensures .0) (rw (h .none) at (at .inv .5)) in
-    let within = seek-within _ _ _ _ s (within-base (a .base) _ (laid .stand)) in
-    rw (part-from (at .j) (now (a .piece))) (omega (arith, length-drop (at .j) (now (a .piece))))
+    let a = entry (c .before .before .before .before) .args in
+    let within = seek-within _ _ _ _ (last (c .before .before)) (within-base (a .base) _ (entry (c .before .before .before .before) .pre .1 .stand)) in
+    let rest = rest-length (c .before .before .before .before .loop .j) (now (a .piece)) in
+    omega arith
 
 same-length-2 : tie.Need-same-length-2 Inv-loop μ-loop
 same-length-2 c = search needs
 
 returns-3 : tie.Need-returns-3 Inv-loop μ-loop
 returns-3 c =
-    let a = c .before .before .before .before .before .before .before .before .before .before .before .args in
+    let a = entry (c .before .before .before .before .before .before .before) .args in
     let at = c .before .before .before .before .before .before .before .loop in
-    let h = behind-all (a .n) (at .i) _ (a .t3) (at .w) (search needs) (c .before .before .before .before .before .before .before .before .before .before .before .pre .0) (at .inv .1) (omega arith) (at .inv .0) in
-    let s = gap-last (a .base) _ _ _ _ (at .w) (h .walk) (omega arith) (c .before .before .before .before .before .rounded2 .ensures .0) (rw (h .none) at (at .inv .5)) in
-    placed-rest _ (a .count) (at .j) _ (now (a .piece)) (now (a .out)) (at .out) _ s (omega arith) (omega arith) (at .inv .4) (rw (add-assoc, part-from (at .j) (now (a .piece))) at (c .before .before .copy-at2 .ensures))
+    placed-rest _ (a .count) (at .j) _ (now (a .piece)) (now (a .out)) (at .out) _ (last (c .before .before .before .before .before)) (omega arith) (omega arith) (at .inv .4) (rw add-assoc at (c .before .before .copy-at2 .ensures))
 
 pub place-base-spec : {M : Type 1} → statement M
 place-base-spec =

@@ -1,24 +1,24 @@
 -- `placing::place_chunks` meets its contract.
-use Rattle.layout.proofs.Putting.{length-places}
-use Rattle.layout.proofs.Stood.{rounded-most}
-use Rattle.placing.proofs.Laws.{placed-empty, left-fits, Parted, parted-start, parted-next, chunk-placed, chunk-room, chunk-next-byte, placed-rest, part-length, last-within, source-most}
-use Rattle.layout.proofs.Seeking.{ChunkSought, chunk-start, chunk-last}
 use mathlib.Core.Path.{_≡_, refl, sym, ap, _∙_}
-use Prim.Native.Nat.{_+_, _-_, _≤_, _<_}
+use mathlib.Core.Bool.{false}
+use mathlib.Core.List.{List}
+use Prim.Native.Nat.{_+_, _-_, _≤_, _<_, min}
 use native.Mathlib.Nat.{add-zero}
 use native.Mathlib.Omega.{arith}
 use borrow.Author.Needs.{needs}
 use denote.Ref.{now}
-use mathlib.Core.Bool.{false}
 use lib.Seq.{take-length}
-use lib.ListN.{length, take, drop, getD, length-drop}
-use Rattle.wire.proofs.Laws.{part-from}
+use lib.ListN.{length, take, drop, getD}
 use Rattle.wire.specs.Wire.{zeroReadSegment}
 use Rattle.layout.specs.Places.{put}
-use Rattle.layout.specs.Walks.{endedLength}
+use Rattle.layout.specs.Walks.{joinedRun}
 use Rattle.layout.specs.Layout.{otherChunks, places}
-use Rattle.layout.proofs.Putting.{length-put, put-none}
-use Rattle.layout.proofs.Remaining.{Along, along-start, here, behind-all}
+use Rattle.layout.specs.declared.Run.{Run}
+use Rattle.layout.proofs.Putting.{length-put, length-places, put-none}
+use Rattle.layout.proofs.Stood.{rounded-most}
+use Rattle.layout.proofs.Remaining.{Along, along-start, Here, here, Behind, behind-all}
+use Rattle.layout.proofs.Seeking.{ChunkSought, chunk-start, LastByte, chunk-last}
+use Rattle.placing.proofs.Laws.{placed-empty, left-fits, Parted, parted-start, parted-next, Copying, chunk-step, rest-length, placed-rest, last-within, source-most}
 use Rattle.placing.proofs.place_chunks.Statement.{statement}
 use Rattle.placing.proofs.place_chunks.Tie as tie
 
@@ -29,6 +29,37 @@ Inv-loop out₀ piece n base count segments size w₀ left₀ j₀ i₀ out w le
 
 abbrev μ-loop : tie.MeasureT-loop
 μ-loop out₀ piece n base count segments size w₀ left₀ j₀ i₀ out w left j i = n - i
+
+-- The entry of the function, and the chunks of the read list.
+abbrev entry : tie.At-loop Inv-loop μ-loop → tie.Start Inv-loop μ-loop
+entry c = c .before .before .before .before
+
+abbrev chunks : tie.At-loop Inv-loop μ-loop → List Run
+chunks c = otherChunks (take (entry c .args .n) (entry c .args .t3))
+
+-- What is known at a segment, and behind the last.
+known : (c : tie.In-loop Inv-loop μ-loop) → Here (entry (c .before) .args .n) (c .before .loop .i) 0 (entry (c .before) .args .t3) (c .before .loop .w)
+known c = let at = c .before .loop in here _ (at .i) _ _ (at .w) (search needs) (entry (c .before) .pre .0) (at .inv .1) (c .loop-test .taken)
+
+behind : (c : tie.After-loop Inv-loop μ-loop) → Behind (entry (c .before) .args .n) (c .before .loop .i) 0 (entry (c .before) .args .t3) (c .before .loop .w)
+behind c = let at = c .before .loop in behind-all _ (at .i) _ _ (at .w) (search needs) (entry (c .before) .pre .0) (at .inv .1) (omega arith) (at .inv .0)
+
+-- The bytes of a chunk that the segment ends.
+step : (c : tie.After-least2 Inv-loop μ-loop) →
+    Copying (places (chunks (c .before .before .before .before .before .before .before))) (entry (c .before .before .before .before .before .before .before) .args .count) (c .before .before .before .before .before .before .before .loop .j) (c .before .before .least .result) (c .before .before .before .before .before .before .before .loop .w .at + c .least2 .result) (now (entry (c .before .before .before .before .before .before .before) .args .piece)) (now (entry (c .before .before .before .before .before .before .before) .args .out)) (c .before .before .before .before .before .before .before .loop .out)
+    (ChunkSought (chunks (c .before .before .before .before .before .before .before)) (entry (c .before .before .before .before .before .before .before) .args .count + (c .before .before .before .before .before .before .before .loop .j + c .before .before .least .result)) (c .before .before .before .before .before .before .before .loop .left + c .before .before .least .result - c .before .before .before .before .ended .result) (joinedRun (c .before .before .before .before .before .before .before .loop .w) (getD (entry (c .before .before .before .before .before .before .before) .args .t3) (c .before .before .before .before .before .before .before .loop .i) zeroReadSegment)) (drop (c .before .before .before .before .before .before .before .loop .i + 1) (take (entry (c .before .before .before .before .before .before .before) .args .n) (entry (c .before .before .before .before .before .before .before) .args .t3))))
+step c =
+    let a = entry (c .before .before .before .before .before .before .before) .args in
+    let pre = entry (c .before .before .before .before .before .before .before) .pre in
+    let at = c .before .before .before .before .before .before .before .loop in
+    let h = known (c .before .before .before .before .before .before) in
+    let share : c .before .before .least .result ≡ min (c .before .before .before .before .ended .result - at .left) (length (now (a .piece)) - at .j) = rw (← (c .before .before .before .ahead .ensures)) (c .before .before .least .ensures) in
+    rw (c .least2 .ensures)
+    (chunk-step _ (at .w) (getD (a .t3) (at .i) zeroReadSegment) _ (h .walk) (a .count) (at .j) (at .left) (rw (h .rest) at (at .inv .5)) _ (c .before .before .before .before .ended .ensures) (now (a .piece)) (at .inv .3) _ share (a .base) (pre .1 .stand) (rw (h .rest) at (at .inv .6)) (pre .3) _ (at .out) (rw (at .inv .2) (pre .2)) (at .inv .4))
+
+-- The run of the last bytes.
+last : (c : tie.After-loop Inv-loop μ-loop) → LastByte (chunks (c .before)) (entry (c .before) .args .count + c .before .loop .j) (c .before .loop .left) (c .before .loop .w)
+last c = let h = behind c in let at = c .before .loop in chunk-last _ _ _ (at .w) (h .walk) (rw (h .none) at (at .inv .5))
 
 returns : tie.Need-returns Inv-loop μ-loop
 returns c = placed-empty _ (now (c .before .before .before .args .piece)) _ (c .if1 .taken)
@@ -61,13 +92,7 @@ least-requires-2 : tie.Need-least-requires-2 Inv-loop μ-loop
 least-requires-2 c κs = search needs
 
 add-copy-at : tie.Need-add-copy-at Inv-loop μ-loop
-add-copy-at c =
-    let a = c .before .before .before .before .before .before .before .before .before .before .before .before .args in
-    let at = c .before .before .before .before .before .before .before .before .loop in
-    let h = here (a .n) (at .i) _ (a .t3) (at .w) (search needs) (c .before .before .before .before .before .before .before .before .before .before .before .before .pre .0) (at .inv .1) (c .before .before .before .before .before .before .before .loop-test .taken) in
-    let e = c .before .before .before .before .before .ended .ensures in
-    let near = c .before .least2 .ensures in
-    omega arith
+add-copy-at c = let h = known (c .before .before .before .before .before .before .before) in let e = c .before .before .before .before .before .ended .ensures in let near = c .before .least2 .ensures in omega arith
 
 sub-copy-at : tie.Need-sub-copy-at Inv-loop μ-loop
 sub-copy-at c = let near = c .before .before .before .least .ensures in omega arith
@@ -79,73 +104,31 @@ part-copy-at-end : tie.Need-part-copy-at-end Inv-loop μ-loop
 part-copy-at-end c = let more = c .before .before .before .before .before .before .before .before .loop .inv .3 in let near = c .before .before .before .least .ensures in omega arith
 
 copy-at-requires : tie.Need-copy-at-requires Inv-loop μ-loop
-copy-at-requires c κs =
-    let a = c .before .before .before .before .before .before .before .before .before .before .before .before .before .args in
-    let laid = c .before .before .before .before .before .before .before .before .before .before .before .before .before .pre .1 in
-    let room = c .before .before .before .before .before .before .before .before .before .before .before .before .before .pre .2 in
-    let fits = c .before .before .before .before .before .before .before .before .before .before .before .before .before .pre .3 in
-    let at = c .before .before .before .before .before .before .before .before .before .loop in
-    let h = here (a .n) (at .i) _ (a .t3) (at .w) (search needs) (c .before .before .before .before .before .before .before .before .before .before .before .before .before .pre .0) (at .inv .1) (c .before .before .before .before .before .before .before .before .loop-test .taken) in
-    let same = at .inv .2 in
-    let more = at .inv .3 in
-    let x = getD (a .t3) (at .i) zeroReadSegment in
-    let sought = rw (h .rest) at (at .inv .5) in
-    let ended = c .before .before .before .before .before .before .ended .ensures in
-    let m : c .before .before .before .before .least .result ≤ endedLength (at .w) x - at .left = (let far = c .before .before .before .before .before .ahead .ensures in let near = c .before .before .before .before .least .ensures in omega arith) in
-    let part = part-length (at .j) (c .before .before .before .before .least .result) (now (a .piece)) (let near = c .before .before .before .before .least .ensures in omega arith) in
-    let within = chunk-room _ (at .w) x _ (h .walk) (a .count) (at .j) (at .left) sought _ m (a .base) (laid .stand) (rw (h .rest) at (at .inv .6)) in
-    let near = c .before .before .least2 .ensures in
-    omega arith
+copy-at-requires c κs = step (c .before .before) .room
 
 same-length : tie.Need-same-length Inv-loop μ-loop
 same-length c = search needs
 
 returns-2 : tie.Need-returns-2 Inv-loop μ-loop
-returns-2 c =
-    let a = c .before .before .before .before .before .before .before .before .before .before .before .before .before .before .before .before .before .args in
-    let at = c .before .before .before .before .before .before .before .before .before .before .before .before .before .loop in
-    let h = here (a .n) (at .i) _ (a .t3) (at .w) (search needs) (c .before .before .before .before .before .before .before .before .before .before .before .before .before .before .before .before .before .pre .0) (at .inv .1) (c .before .before .before .before .before .before .before .before .before .before .before .before .loop-test .taken) in
-    let x = getD (a .t3) (at .i) zeroReadSegment in
-    let sought = rw (h .rest) at (at .inv .5) in
-    let ended = c .before .before .before .before .before .before .before .before .before .before .ended .ensures in
-    let m : c .before .before .before .before .before .before .before .before .least .result ≤ endedLength (at .w) x - at .left = (let far = c .before .before .before .before .before .before .before .before .before .ahead .ensures in let near = c .before .before .before .before .before .before .before .before .least .ensures in omega arith) in
-    let after = chunk-placed _ (at .w) x _ (h .walk) (a .count) (at .j) (at .left) sought _ m (now (a .piece)) (now (a .out)) (at .out) _ (let near = c .before .before .before .before .before .before .before .before .least .ensures in omega arith) (at .inv .4) (rw (c .before .before .before .before .before .before .least2 .ensures, c .before .before .before .before .before .before .before .before .before .before .ended .ensures) at (c .before .before .before .copy-at .ensures)) in
-    let all = c .if2 .taken in
-    after ∙ rw (all, take-length)
+returns-2 c = step (c .before .before .before .before .before .before) .placed _ (c .before .before .before .copy-at .ensures) ∙ rw (c .if2 .taken, take-length)
 
 add-left : tie.Need-add-left Inv-loop μ-loop
 add-left c =
-    let a = c .before .before .before .before .before .before .before .before .before .before .before .before .before .before .before .before .before .args in
-    let pre = c .before .before .before .before .before .before .before .before .before .before .before .before .before .before .before .before .before .pre in
-    let cs = otherChunks (take (a .n) (a .t3)) in
-    let bound : length (now (a .out)) < 18446744073709551616 = search needs in
-    record { fits = left-fits _ _ _ _ _ _ _ _ _ _ (c .before .before .before .before .before .before .before .before .before .before .before .before .before .loop .inv .7) (c .before .before .before .before .before .before .before .before .least .ensures) (pre .3) (rw (← (length-places cs)) (source-most false (a .base) cs (pre .1 .stand))) (pre .2) bound }
+    let start = entry (c .before .before .before .before .before .before .before .before .before .before .before .before .before) in
+    let cs = chunks (c .before .before .before .before .before .before .before .before .before .before .before .before .before) in
+    let bound : length (now (start .args .out)) < 18446744073709551616 = search needs in
+    record { fits = left-fits _ _ _ _ _ _ _ _ _ _ (c .before .before .before .before .before .before .before .before .before .before .before .before .before .loop .inv .7) (c .before .before .before .before .before .before .before .before .least .ensures) (start .pre .3) (rw (← (length-places cs)) (source-most false (start .args .base) cs (start .pre .1 .stand))) (start .pre .2) bound }
 
 sub-left : tie.Need-sub-left Inv-loop μ-loop
 sub-left c =
-    let a = c .before .before .before .before .before .before .before .before .before .before .before .before .before .before .before .before .before .args in
-    let laid = c .before .before .before .before .before .before .before .before .before .before .before .before .before .before .before .before .before .pre .1 in
-    let room = c .before .before .before .before .before .before .before .before .before .before .before .before .before .before .before .before .before .pre .2 in
-    let fits = c .before .before .before .before .before .before .before .before .before .before .before .before .before .before .before .before .before .pre .3 in
-    let at = c .before .before .before .before .before .before .before .before .before .before .before .before .before .loop in
-    let h = here (a .n) (at .i) _ (a .t3) (at .w) (search needs) (c .before .before .before .before .before .before .before .before .before .before .before .before .before .before .before .before .before .pre .0) (at .inv .1) (c .before .before .before .before .before .before .before .before .before .before .before .before .loop-test .taken) in
-    let same = at .inv .2 in
-    let more = at .inv .3 in
-    let x = getD (a .t3) (at .i) zeroReadSegment in
-    let sought = rw (h .rest) at (at .inv .5) in
-    let ended = c .before .before .before .before .before .before .before .before .before .before .ended .ensures in
-    let m : c .before .before .before .before .before .before .before .before .least .result ≤ endedLength (at .w) x - at .left = (let far = c .before .before .before .before .before .before .before .before .before .ahead .ensures in let near = c .before .before .before .before .before .before .before .before .least .ensures in omega arith) in
+    let more = c .before .before .before .before .before .before .before .before .before .before .before .before .before .loop .inv .3 in
     let far = c .before .before .before .before .before .before .before .before .before .ahead .ensures in
     let near = c .before .before .before .before .before .before .before .before .least .ensures in
     let left = c .if2 .left in
     omega arith
 
 joined-requires : tie.Need-joined-requires Inv-loop μ-loop
-joined-requires c κs =
-    let a = c .before .before .before .before .before .before .before .before .before .before .before .before .before .before .before .before .before .args in
-    let at = c .before .before .before .before .before .before .before .before .before .before .before .before .before .loop in
-    let h = here (a .n) (at .i) _ (a .t3) (at .w) (search needs) (c .before .before .before .before .before .before .before .before .before .before .before .before .before .before .before .before .before .pre .0) (at .inv .1) (c .before .before .before .before .before .before .before .before .before .before .before .before .loop-test .taken) in
-    omega arith
+joined-requires c κs = let h = known (c .before .before .before .before .before .before .before .before .before .before .before .before) in omega arith
 
 add-i : tie.Need-add-i Inv-loop μ-loop
 add-i c = search needs
@@ -155,36 +138,22 @@ loop-less c = let lt = c .before .before .before .before .before .before .before
 
 loop-again : tie.Need-loop-again Inv-loop μ-loop
 loop-again c =
-    let a = c .before .before .before .before .before .before .before .before .before .before .before .before .before .before .before .before .before .before .args in
-    let laid = c .before .before .before .before .before .before .before .before .before .before .before .before .before .before .before .before .before .before .pre .1 in
-    let room = c .before .before .before .before .before .before .before .before .before .before .before .before .before .before .before .before .before .before .pre .2 in
-    let fits = c .before .before .before .before .before .before .before .before .before .before .before .before .before .before .before .before .before .before .pre .3 in
     let at = c .before .before .before .before .before .before .before .before .before .before .before .before .before .before .loop in
-    let h = here (a .n) (at .i) _ (a .t3) (at .w) (search needs) (c .before .before .before .before .before .before .before .before .before .before .before .before .before .before .before .before .before .before .pre .0) (at .inv .1) (c .before .before .before .before .before .before .before .before .before .before .before .before .before .loop-test .taken) in
-    let same = at .inv .2 in
-    let more = at .inv .3 in
-    let x = getD (a .t3) (at .i) zeroReadSegment in
-    let sought = rw (h .rest) at (at .inv .5) in
-    let ended = c .before .before .before .before .before .before .before .before .before .before .before .ended .ensures in
-    let m : c .before .before .before .before .before .before .before .before .before .least .result ≤ endedLength (at .w) x - at .left = (let far = c .before .before .before .before .before .before .before .before .before .before .ahead .ensures in let near = c .before .before .before .before .before .before .before .before .before .least .ensures in omega arith) in
-    let after = chunk-placed _ (at .w) x _ (h .walk) (a .count) (at .j) (at .left) sought _ m (now (a .piece)) (now (a .out)) (at .out) _ (let near = c .before .before .before .before .before .before .before .before .before .least .ensures in omega arith) (at .inv .4) (rw (c .before .before .before .before .before .before .before .least2 .ensures, c .before .before .before .before .before .before .before .before .before .before .before .ended .ensures) at (c .before .before .before .before .copy-at .ensures)) in
+    let h = known (c .before .before .before .before .before .before .before .before .before .before .before .before .before) in
+    let s = step (c .before .before .before .before .before .before .before) in
+    let after = s .placed _ (c .before .before .before .before .copy-at .ensures) in
     let far = c .before .before .before .before .before .before .before .before .before .before .ahead .ensures in
     let near = c .before .before .before .before .before .before .before .before .before .least .ensures in
-    let left = c .before .if2 .left in
+    let further : at .j + c .before .before .before .before .before .before .before .before .before .least .result < length (now (entry (c .before .before .before .before .before .before .before .before .before .before .before .before .before .before) .args .piece)) = (let more = at .inv .3 in let left = c .before .if2 .left in omega arith) in
     let joined = c .joined .ensures in
-    let next = chunk-next-byte _ (at .w) x _ (h .walk) (a .count) (at .j) (at .left) sought _ m (omega arith) (omega arith) in
-    (search needs, h .onward 0 _ (omega arith) (joined .0) (joined .1), ap length after ∙ length-put _ _ _, omega arith, after, rw (joined .0, ended) next, rw (joined .0) (parted-next _ (at .w) x _ (h .walk) (rw (h .rest) at (at .inv .6))), rw ended (let before = at .inv .7 in omega arith))
+    (search needs, h .onward 0 _ (omega arith) (joined .0) (joined .1), ap length after ∙ length-put _ _ _, further, after, rw (joined .0) (s .next further), rw (joined .0) (parted-next _ (at .w) _ _ (h .walk) (rw (h .rest) at (at .inv .6))), (let before = at .inv .7 in omega arith))
 
 add-copy-at-2 : tie.Need-add-copy-at-2 Inv-loop μ-loop
 add-copy-at-2 c =
-    let a = c .before .before .before .before .before .before .before .args in
-    let laid = c .before .before .before .before .before .before .before .pre .1 in
-    let at = c .before .before .before .loop in
-    let h = behind-all (a .n) (at .i) _ (a .t3) (at .w) (search needs) (c .before .before .before .before .before .before .before .pre .0) (at .inv .1) (omega arith) (at .inv .0) in
-    let byte = chunk-last _ _ _ (at .w) (h .walk) (rw (h .none) at (at .inv .5)) in
+    let start = entry (c .before .before .before) in
+    let h = behind (c .before .before) in
+    let byte = last (c .before .before) in
     let there = byte .some in
-    let behind = byte .rest in
-    let total = source-most false (a .base) (otherChunks (take (a .n) (a .t3))) (laid .stand) in
     omega arith
 
 sub-copy-at-2 : tie.Need-sub-copy-at-2 Inv-loop μ-loop
@@ -198,32 +167,28 @@ part-copy-at-end-2 c = search needs
 
 copy-at-requires-2 : tie.Need-copy-at-requires-2 Inv-loop μ-loop
 copy-at-requires-2 c κs =
-    let a = c .before .before .before .before .before .before .before .before .args in
-    let laid = c .before .before .before .before .before .before .before .before .pre .1 in
+    let start = entry (c .before .before .before .before) in
     let at = c .before .before .before .before .loop in
-    let h = behind-all (a .n) (at .i) _ (a .t3) (at .w) (search needs) (c .before .before .before .before .before .before .before .before .pre .0) (at .inv .1) (omega arith) (at .inv .0) in
-    let byte = chunk-last _ _ _ (at .w) (h .walk) (rw (h .none) at (at .inv .5)) in
+    let h = behind (c .before .before .before) in
+    let byte = last (c .before .before .before) in
     let there = byte .some in
-    let behind = byte .rest in
-    let total = source-most false (a .base) (otherChunks (take (a .n) (a .t3))) (laid .stand) in
-    let within = last-within (a .base) _ (at .w) (laid .stand) (h .walk) (rw (h .none) at (at .inv .6)) in
+    let behind-it = byte .rest in
+    let within = last-within (start .args .base) _ (at .w) (start .pre .1 .stand) (h .walk) (rw (h .none) at (at .inv .6)) in
     let up = rounded-most (at .w .length) .0 in
-    rw (part-from (at .j) (now (a .piece))) (omega (arith, length-drop (at .j) (now (a .piece))))
+    let rest = rest-length (at .j) (now (start .args .piece)) in
+    omega arith
 
 same-length-2 : tie.Need-same-length-2 Inv-loop μ-loop
 same-length-2 c = search needs
 
 returns-3 : tie.Need-returns-3 Inv-loop μ-loop
 returns-3 c =
-    let a = c .before .before .before .before .before .before .before .before .before .before .before .args in
-    let laid = c .before .before .before .before .before .before .before .before .before .before .before .pre .1 in
+    let a = entry (c .before .before .before .before .before .before .before) .args in
     let at = c .before .before .before .before .before .before .before .loop in
-    let h = behind-all (a .n) (at .i) _ (a .t3) (at .w) (search needs) (c .before .before .before .before .before .before .before .before .before .before .before .pre .0) (at .inv .1) (omega arith) (at .inv .0) in
-    let byte = chunk-last _ _ _ (at .w) (h .walk) (rw (h .none) at (at .inv .5)) in
+    let byte = last (c .before .before .before .before .before .before) in
     let there = byte .some in
-    let behind = byte .rest in
-    let total = source-most false (a .base) (otherChunks (take (a .n) (a .t3))) (laid .stand) in
-    placed-rest _ (a .count) (at .j) _ (now (a .piece)) (now (a .out)) (at .out) _ (byte .seeks) (omega arith) (omega arith) (at .inv .4) (rw (part-from (at .j) (now (a .piece))) at (c .before .before .copy-at2 .ensures))
+    let behind-it = byte .rest in
+    placed-rest _ (a .count) (at .j) _ (now (a .piece)) (now (a .out)) (at .out) _ (byte .seeks) (omega arith) (omega arith) (at .inv .4) (c .before .before .copy-at2 .ensures)
 
 pub place-chunks-spec : {M : Type 1} → statement M
 place-chunks-spec =
