@@ -338,21 +338,18 @@ module _ (cs : List Run) (w : Run) (x : ReadSegment) (xs : List ReadSegment) (wa
       let same : count + j + m ≡ count + (j + m) = omega arith in
       rw e (rw same at (chunk-next cs (count + j + m) (left + m) w x xs walk (chunk-advance cs (count + j) left m w (x ∷ xs) (omega arith) s) (omega arith)))
 
-  pub chunk-step : (base : ℕ) → stands base 0 0 cs ≡ true → Parted cs w (x ∷ xs) → count + length piece ≤ totalLength cs → (before out : List ℕ) → messageLength base cs ≤ length out → out ≡ put (drop count (places cs)) (take j piece) before →
-      Copying (places cs) count j m (w .at + min left size) piece before out (ChunkSought cs (count + (j + m)) (left + m - size) (joinedRun w x) xs)
-  chunk-step base stand p all before out room now =
+  pub chunk-step : (base : ℕ) → stands base 0 0 cs ≡ true → Parted cs w (x ∷ xs) → count + length piece ≤ totalLength cs → (place : ℕ) → place ≡ min left size → (before out : List ℕ) → messageLength base cs ≤ length out → out ≡ put (drop count (places cs)) (take j piece) before →
+      Copying (places cs) count j m (w .at + place) piece before out (ChunkSought cs (count + (j + m)) (left + m - size) (joinedRun w x) xs)
+  chunk-step base stand p all place here before out room now =
       record {
         room = rw (part-length j m piece (omega arith)) (omega (arith, chunk-within-all base stand p));
-        placed = λ after. chunk-placed before out after now;
+        placed = rw here (λ after. chunk-placed before out after now);
         next = chunk-onward all;
       }
 
 -- No sum on the way is too large.
 pub left-fits : (left m far j size count total message room most : ℕ) → left ≤ count → m ≡ min far (size - j) → count + size ≤ total → total ≤ message → message ≤ room → room < most → left + m < most
 left-fits left m far j size count total message room most a b c d e f = omega arith
-
-pub whole-part : (m : ℕ) → m - 0 ≡ m
-whole-part m = omega arith
 
 -- A piece in two parts: the bytes of the base, and those of the chunks.
 module _ (base : ℕ) (cs : List Run) (stand : stands base 0 0 cs ≡ true) (count m : ℕ) (piece out : List ℕ) where

@@ -10,7 +10,7 @@ use Rattle.layout.specs.Layout.{otherChunks}
 use Rattle.placing.proofs.Laws.{Padded, padded-start, padded-next, padded-last, ended-within, last-within}
 use Rattle.layout.proofs.Putting.{length-put}
 use Rattle.layout.proofs.Stood.{rounded-most}
-use Rattle.layout.proofs.Remaining.{Along, along-start, here, behind-all}
+use Rattle.layout.proofs.Remaining.{Along, along-start, Here, here, Behind, behind-all}
 use Rattle.placing.proofs.clear_paddings.Statement.{statement}
 use Rattle.placing.proofs.clear_paddings.Tie as tie
 
@@ -19,6 +19,13 @@ Inv-loop out₀ n base segments w₀ i₀ out w i = (i ≤ n) × Along (take n s
 
 abbrev μ-loop : tie.MeasureT-loop
 μ-loop out₀ n base segments w₀ i₀ out w i = n - i
+
+-- What is known at a segment, and behind the last.
+known : (c : tie.In-loop Inv-loop μ-loop) → Here (c .before .before .before .args .n) (c .before .loop .i) 0 (c .before .before .before .args .t2) (c .before .loop .w)
+known c = let at = c .before .loop in here _ (at .i) _ _ (at .w) (search needs) (c .before .before .before .pre .0) (at .inv .1) (c .loop-test .taken)
+
+behind : (c : tie.After-loop Inv-loop μ-loop) → Behind (c .before .before .before .args .n) (c .before .loop .i) 0 (c .before .before .before .args .t2) (c .before .loop .w)
+behind c = let at = c .before .loop in behind-all _ (at .i) _ _ (at .w) (search needs) (c .before .before .before .pre .0) (at .inv .1) (omega arith) (at .inv .0)
 
 loop-holds : tie.Need-loop-holds Inv-loop μ-loop
 loop-holds c = (search needs, along-start _ (c .before .pre .1 .rise), refl, padded-start _ _)
@@ -33,39 +40,24 @@ ended-requires : tie.Need-ended-requires Inv-loop μ-loop
 ended-requires c κs = search needs
 
 add-clear-at : tie.Need-add-clear-at Inv-loop μ-loop
-add-clear-at c =
-    let a = c .before .before .before .before .before .before .before .args in
-    let at = c .before .before .before .before .before .loop in
-    let h = here (a .n) (at .i) _ (a .t2) (at .w) (search needs) (c .before .before .before .before .before .before .before .pre .0) (at .inv .1) (c .before .before .before .before .loop-test .taken) in
-    let e = c .before .before .ended .ensures in
-    omega arith
+add-clear-at c = let h = known (c .before .before .before .before) in let e = c .before .before .ended .ensures in omega arith
 
 padding-requires : tie.Need-padding-requires Inv-loop μ-loop
-padding-requires c κs =
-    let a = c .before .before .before .before .before .before .before .args in
-    let at = c .before .before .before .before .before .loop in
-    let h = here (a .n) (at .i) _ (a .t2) (at .w) (search needs) (c .before .before .before .before .before .before .before .pre .0) (at .inv .1) (c .before .before .before .before .loop-test .taken) in
-    rw (c .before .before .ended .ensures) (omega arith)
+padding-requires c κs = let h = known (c .before .before .before .before) in rw (c .before .before .ended .ensures) (omega arith)
 
 clear-at-requires : tie.Need-clear-at-requires Inv-loop μ-loop
 clear-at-requires c κs =
-    let a = c .before .before .before .before .before .before .before .before .args in
-    let laid = c .before .before .before .before .before .before .before .before .pre .1 in
+    let start = c .before .before .before .before .before .before .before .before in
     let at = c .before .before .before .before .before .before .loop in
-    let h = here (a .n) (at .i) _ (a .t2) (at .w) (search needs) (c .before .before .before .before .before .before .before .before .pre .0) (at .inv .1) (c .before .before .before .before .before .loop-test .taken) in
-    let padded = rw (h .rest) at (at .inv .3) in
+    let h = known (c .before .before .before .before .before) in
     let e = c .before .before .before .ended .ensures in
     let pad = rw e at (c .padding .ensures .0) in
-    let within = ended-within (a .base) _ (at .w) (laid .stand) _ _ (h .walk) (padded .parts) in
-    let up = rounded-most (endedLength (at .w) (getD (a .t2) (at .i) zeroReadSegment)) .0 in
+    let within = ended-within (start .args .base) _ (at .w) (start .pre .1 .stand) _ _ (h .walk) (rw (h .rest) at (at .inv .3) .parts) in
+    let up = rounded-most (endedLength (at .w) (getD (start .args .t2) (at .i) zeroReadSegment)) .0 in
     omega arith
 
 joined-requires : tie.Need-joined-requires Inv-loop μ-loop
-joined-requires c κs =
-    let a = c .before .before .before .before .before .before .before .before .before .before .before .args in
-    let at = c .before .before .before .before .before .before .before .before .before .loop in
-    let h = here (a .n) (at .i) _ (a .t2) (at .w) (search needs) (c .before .before .before .before .before .before .before .before .before .before .before .pre .0) (at .inv .1) (c .before .before .before .before .before .before .before .before .loop-test .taken) in
-    omega arith
+joined-requires c κs = let h = known (c .before .before .before .before .before .before .before .before) in omega arith
 
 add-i : tie.Need-add-i Inv-loop μ-loop
 add-i c = search needs
@@ -75,39 +67,25 @@ loop-less c = search needs
 
 loop-again : tie.Need-loop-again Inv-loop μ-loop
 loop-again c =
-    let a = c .before .before .before .before .before .before .before .before .before .before .before .before .args in
     let at = c .before .before .before .before .before .before .before .before .before .before .loop in
-    let h = here (a .n) (at .i) _ (a .t2) (at .w) (search needs) (c .before .before .before .before .before .before .before .before .before .before .before .before .pre .0) (at .inv .1) (c .before .before .before .before .before .before .before .before .before .loop-test .taken) in
-    let padded = rw (h .rest) at (at .inv .3) in
+    let h = known (c .before .before .before .before .before .before .before .before .before) in
     let e = c .before .before .before .before .before .before .before .ended .ensures in
-    let next = padded-next _ (at .w) _ _ _ _ (h .walk) padded _ _ (rw e at (c .before .before .before .before .padding .ensures .0)) (rw e at (c .before .before .before .clear-at .ensures)) in
+    let next = padded-next _ (at .w) _ _ _ _ (h .walk) (rw (h .rest) at (at .inv .3)) _ _ (rw e at (c .before .before .before .before .padding .ensures .0)) (rw e at (c .before .before .before .clear-at .ensures)) in
     (search needs, h .onward 0 _ (omega arith) (c .joined .ensures .0) (c .joined .ensures .1), ap length (next .filled) ∙ length-put _ _ _, rw (c .joined .ensures .0) next)
 
 add-clear-at-2 : tie.Need-add-clear-at-2 Inv-loop μ-loop
-add-clear-at-2 c =
-    let a = c .before .before .before .before .before .args in
-    let at = c .before .before .before .loop in
-    let h = behind-all (a .n) (at .i) _ (a .t2) (at .w) (search needs) (c .before .before .before .before .before .pre .0) (at .inv .1) (omega arith) (at .inv .0) in
-    let padded = rw (h .none) at (at .inv .3) in
-    omega arith
+add-clear-at-2 c = let h = behind (c .before .before) in omega arith
 
 padding-requires-2 : tie.Need-padding-requires-2 Inv-loop μ-loop
-padding-requires-2 c κs =
-    let a = c .before .before .before .before .before .args in
-    let at = c .before .before .before .loop in
-    let h = behind-all (a .n) (at .i) _ (a .t2) (at .w) (search needs) (c .before .before .before .before .before .pre .0) (at .inv .1) (omega arith) (at .inv .0) in
-    let padded = rw (h .none) at (at .inv .3) in
-    omega arith
+padding-requires-2 c κs = let h = behind (c .before .before) in omega arith
 
 clear-at-requires-2 : tie.Need-clear-at-requires-2 Inv-loop μ-loop
 clear-at-requires-2 c κs =
-    let a = c .before .before .before .before .before .before .args in
-    let laid = c .before .before .before .before .before .before .pre .1 in
+    let start = c .before .before .before .before .before .before in
     let at = c .before .before .before .before .loop in
-    let h = behind-all (a .n) (at .i) _ (a .t2) (at .w) (search needs) (c .before .before .before .before .before .before .pre .0) (at .inv .1) (omega arith) (at .inv .0) in
-    let padded = rw (h .none) at (at .inv .3) in
+    let h = behind (c .before .before .before) in
     let pad = c .padding2 .ensures .0 in
-    let within = last-within (a .base) _ (at .w) (laid .stand) (h .walk) (padded .parts) in
+    let within = last-within (start .args .base) _ (at .w) (start .pre .1 .stand) (h .walk) (rw (h .none) at (at .inv .3) .parts) in
     let up = rounded-most (at .w .length) .0 in
     omega arith
 
@@ -116,11 +94,9 @@ same-length c = search needs
 
 returns : tie.Need-returns Inv-loop μ-loop
 returns c =
-    let a = c .before .before .before .before .before .before .before .before .before .args in
     let at = c .before .before .before .before .before .before .before .loop in
-    let h = behind-all (a .n) (at .i) _ (a .t2) (at .w) (search needs) (c .before .before .before .before .before .before .before .before .before .pre .0) (at .inv .1) (omega arith) (at .inv .0) in
-    let padded = rw (h .none) at (at .inv .3) in
-    padded-last _ (at .w) _ _ (h .walk) padded _ _ (c .before .before .before .padding2 .ensures .0) (c .before .before .clear-at2 .ensures)
+    let h = behind (c .before .before .before .before .before .before) in
+    padded-last _ (at .w) _ _ (h .walk) (rw (h .none) at (at .inv .3)) _ _ (c .before .before .before .padding2 .ensures .0) (c .before .before .clear-at2 .ensures)
 
 pub clear-paddings-spec : {M : Type 1} → statement M
 clear-paddings-spec =

@@ -1,19 +1,22 @@
 -- `placing::place` meets its contract.
-use Rattle.placing.proofs.Laws.{whole-part}
 use lib.Seq.{length-take-le}
 use mathlib.Core.Path.{_≡_, sym, ap, _∙_}
 use Prim.Native.Nat.{_-_, min}
+use native.Mathlib.Nat.{sub-zero}
 use native.Mathlib.Omega.{arith}
 use mathlib.Core.Bool.{cond}
 use denote.Ref.{now}
-use lib.ListN.{length, take, length-drop}
+use lib.ListN.{length}
 use Rattle.wire.proofs.Laws.{part-from}
-use Rattle.layout.specs.Layout.{otherChunks}
 use Rattle.layout.proofs.Putting.{length-put}
-use Rattle.placing.proofs.Laws.{base-part, chunk-part, in-two}
+use Rattle.placing.proofs.Laws.{rest-length, base-part, chunk-part, in-two}
 use borrow.Author.Needs.{needs}
 use Rattle.placing.proofs.place.Statement.{statement}
 use Rattle.placing.proofs.place.Tie as tie
+
+-- How many bytes of the piece go to the base.
+share : (c : tie.After-least) → let a = c .before .before .before .before .args in c .least .result ≡ min (cond (a .based) (a .base - a .count) 0) (length (now (a .piece)))
+share c = rw (← (c .before .to-come .ensures)) (c .least .ensures)
 
 to-come-requires : tie.Need-to-come-requires
 to-come-requires c κs = search needs
@@ -34,14 +37,11 @@ least-requires-2 : tie.Need-least-requires-2
 least-requires-2 c κs = search needs
 
 place-base-requires : tie.Need-place-base-requires
-place-base-requires c κs = let a = c .before .before .before .before .before .before .before .args in
+place-base-requires c κs =
+    let a = c .before .before .before .before .before .before .before .args in
     let pre = c .before .before .before .before .before .before .before .pre in
-    let cs = otherChunks (take (a .n) (a .segments)) in
-    let stand = pre .1 .stand in
-    let m : c .before .before .before .least .result ≡ min (cond (a .based) (a .base - a .count) 0) (length (now (a .piece))) = rw (← (c .before .before .before .before .to-come .ensures)) (c .before .before .before .least .ensures) in
-    let most = base-part (a .base) cs stand (a .count) (c .before .before .before .least .result) (now (a .piece)) (now (a .out)) (a .based) m in
-    let front = length-take-le (c .before .before .before .least .result) (now (a .piece)) (omega arith) in
-    (pre .0, pre .1, pre .2, rw (c .least2 .ensures, whole-part, front) most)
+    let most = base-part (a .base) _ (pre .1 .stand) (a .count) _ (now (a .piece)) (now (a .out)) (a .based) (share (c .before .before .before)) in
+    (pre .0, pre .1, pre .2, rw (c .least2 .ensures, sub-zero, length-take-le (c .before .before .before .least .result) (now (a .piece)) (omega arith)) most)
 
 sub-place-chunks : tie.Need-sub-place-chunks
 sub-place-chunks c = search needs
@@ -56,27 +56,21 @@ behind-base-requires : tie.Need-behind-base-requires
 behind-base-requires c κs = search needs
 
 place-chunks-requires : tie.Need-place-chunks-requires
-place-chunks-requires c κs = let a = c .before .before .before .before .before .before .before .before .before .before .before .before .before .args in
+place-chunks-requires c κs =
+    let a = c .before .before .before .before .before .before .before .before .before .before .before .before .before .args in
     let pre = c .before .before .before .before .before .before .before .before .before .before .before .before .before .pre in
-    let cs = otherChunks (take (a .n) (a .segments)) in
-    let stand = pre .1 .stand in
-    let m : c .before .before .before .before .before .before .before .before .before .least .result ≡ min (cond (a .based) (a .base - a .count) 0) (length (now (a .piece))) = rw (← (c .before .before .before .before .before .before .before .before .before .before .to-come .ensures)) (c .before .before .before .before .before .before .before .before .before .least .ensures) in
     let kept = ap length (c .before .before .before .before .before .place-base .ensures) ∙ length-put _ _ _ in
-    let room = pre .2 in
-    (pre .0, pre .1, rw kept room, rw (c .behind-base .ensures, part-from (c .before .before .before .before .before .before .before .before .before .least .result) (now (a .piece)), length-drop (c .before .before .before .before .before .before .before .before .before .least .result) (now (a .piece))) (chunk-part (a .base) cs stand (a .count) (c .before .before .before .before .before .before .before .before .before .least .result) (now (a .piece)) (now (a .out)) (a .based) m (pre .3)))
+    (pre .0, pre .1, rw kept (pre .2), rw (c .behind-base .ensures, rest-length (c .before .before .before .before .before .before .before .before .before .least .result) (now (a .piece))) (chunk-part (a .base) _ (pre .1 .stand) (a .count) _ (now (a .piece)) (now (a .out)) (a .based) (share (c .before .before .before .before .before .before .before .before .before)) (pre .3)))
 
 same-length : tie.Need-same-length
 same-length c = search needs
 
 returns : tie.Need-returns
-returns c = let a = c .before .before .before .before .before .before .before .before .before .before .before .before .before .before .before .before .args in
-    let pre = c .before .before .before .before .before .before .before .before .before .before .before .before .before .before .before .before .pre in
-    let cs = otherChunks (take (a .n) (a .segments)) in
-    let stand = pre .1 .stand in
-    let m : c .before .before .before .before .before .before .before .before .before .before .before .before .least .result ≡ min (cond (a .based) (a .base - a .count) 0) (length (now (a .piece))) = rw (← (c .before .before .before .before .before .before .before .before .before .before .before .before .before .to-come .ensures)) (c .before .before .before .before .before .before .before .before .before .before .before .before .least .ensures) in
+returns c =
+    let a = c .before .before .before .before .before .before .before .before .before .before .before .before .before .before .before .before .args in
     c .before .before .place-chunks .ensures
-    ∙ rw (c .before .before .before .behind-base .ensures, part-from (c .before .before .before .before .before .before .before .before .before .before .before .before .least .result) (now (a .piece)), c .before .before .before .before .before .before .before .before .place-base .ensures, c .before .before .before .before .before .before .before .before .before .least2 .ensures, whole-part)
-    (sym (in-two (a .base) cs stand (a .count) (c .before .before .before .before .before .before .before .before .before .before .before .before .least .result) (now (a .piece)) (now (a .out)) (a .based) m))
+    ∙ rw (c .before .before .before .behind-base .ensures, part-from (c .before .before .before .before .before .before .before .before .before .before .before .before .least .result) (now (a .piece)), c .before .before .before .before .before .before .before .before .place-base .ensures, c .before .before .before .before .before .before .before .before .before .least2 .ensures, sub-zero)
+    (sym (in-two (a .base) _ (c .before .before .before .before .before .before .before .before .before .before .before .before .before .before .before .before .pre .1 .stand) (a .count) _ (now (a .piece)) (now (a .out)) (a .based) (share (c .before .before .before .before .before .before .before .before .before .before .before .before))))
 
 pub place-spec : {M : Type 1} → statement M
 place-spec =

@@ -43,24 +43,28 @@ behind : (c : tie.After-loop Inv-loop μ-loop) → Behind (entry (c .before) .ar
 behind c = let at = c .before .loop in behind-all _ (at .i) _ _ (at .w) (search needs) (entry (c .before) .pre .0) (at .inv .1) (omega arith) (at .inv .0)
 
 -- The bytes that go before the segment.
-step : (c : tie.After-least Inv-loop μ-loop) →
-    Copying (basePlaces (entry (c .before .before .before .before .before .before .before) .args .base) (chunks (c .before .before .before .before .before .before .before))) (entry (c .before .before .before .before .before .before .before) .args .count) (c .before .before .before .before .before .before .before .loop .j) (c .least .result) (entry (c .before .before .before .before .before .before .before) .args .count + c .before .before .before .before .before .before .before .loop .j + (c .before .before .before .before .before .before .before .loop .earlier + c .before .before .rounded .result)) (now (entry (c .before .before .before .before .before .before .before) .args .piece)) (now (entry (c .before .before .before .before .before .before .before) .args .out)) (c .before .before .before .before .before .before .before .loop .out)
-    (GapSought (entry (c .before .before .before .before .before .before .before) .args .base) (chunks (c .before .before .before .before .before .before .before)) (entry (c .before .before .before .before .before .before .before) .args .count + (c .before .before .before .before .before .before .before .loop .j + c .least .result)) (c .before .before .before .before .before .before .before .loop .earlier + c .before .before .rounded .result) (joinedRun (c .before .before .before .before .before .before .before .loop .w) (getD (entry (c .before .before .before .before .before .before .before) .args .t3) (c .before .before .before .before .before .before .before .loop .i) zeroReadSegment)) (drop (c .before .before .before .before .before .before .before .loop .i + 1) (take (entry (c .before .before .before .before .before .before .before) .args .n) (entry (c .before .before .before .before .before .before .before) .args .t3))))
-step c =
-    let a = entry (c .before .before .before .before .before .before .before) .args in
-    let pre = entry (c .before .before .before .before .before .before .before) .pre in
-    let at = c .before .before .before .before .before .before .before .loop in
-    let h = known (c .before .before .before .before .before .before) in
-    let x = getD (a .t3) (at .i) zeroReadSegment in
-    let size : c .before .before .rounded .result ≡ roundedUp (endedLength (at .w) x) = rw (← (c .before .before .before .ended .ensures)) (c .before .before .rounded .ensures .0) in
-    let share : c .least .result ≡ min (x .position - (a .count + at .j + (at .earlier + c .before .before .rounded .result))) (length (now (a .piece)) - at .j) = rw (← (c .before .before .before .before .wide .ensures .0), ← (c .before .ahead .ensures)) (c .least .ensures) in
-    base-step (a .base) _ (at .w) (at .earlier) x _ (h .walk) (a .count) (at .j) (rw (h .rest) at (at .inv .5)) _ size (now (a .piece)) (at .inv .3) _ share (pre .1 .stand) (pre .3) _ (at .out) (rw (at .inv .2) (pre .2)) (at .inv .4)
+module _ (c : tie.After-least Inv-loop μ-loop) where
+  abbrev top : tie.At-loop Inv-loop μ-loop
+  top = c .before .before .before .before .before .before .before
+
+  step :
+      Copying (basePlaces (entry top .args .base) (chunks top)) (entry top .args .count) (top .loop .j) (c .least .result) (entry top .args .count + top .loop .j + (top .loop .earlier + c .before .before .rounded .result)) (now (entry top .args .piece)) (now (entry top .args .out)) (top .loop .out)
+      (GapSought (entry top .args .base) (chunks top) (entry top .args .count + (top .loop .j + c .least .result)) (top .loop .earlier + c .before .before .rounded .result) (joinedRun (top .loop .w) (getD (entry top .args .t3) (top .loop .i) zeroReadSegment)) (drop (top .loop .i + 1) (take (entry top .args .n) (entry top .args .t3))))
+  step =
+      let a = entry top .args in
+      let pre = entry top .pre in
+      let at = top .loop in
+      let h = known (c .before .before .before .before .before .before) in
+      let x = getD (a .t3) (at .i) zeroReadSegment in
+      let size : c .before .before .rounded .result ≡ roundedUp (endedLength (at .w) x) = rw (← (c .before .before .before .ended .ensures)) (c .before .before .rounded .ensures .0) in
+      let share : c .least .result ≡ min (x .position - (a .count + at .j + (at .earlier + c .before .before .rounded .result))) (length (now (a .piece)) - at .j) = rw (← (c .before .before .before .before .wide .ensures .0), ← (c .before .ahead .ensures)) (c .least .ensures) in
+      base-step (a .base) _ (at .w) (at .earlier) x _ (h .walk) (a .count) (at .j) (rw (h .rest) at (at .inv .5)) _ size (now (a .piece)) (at .inv .3) _ share (pre .1 .stand) (pre .3) _ (at .out) (rw (at .inv .2) (pre .2)) (at .inv .4)
 
 -- The run of the last bytes.
-last : (c : tie.After-rounded2 Inv-loop μ-loop) → Seeks (basePlaces (entry (c .before .before) .args .base) (chunks (c .before .before))) (entry (c .before .before) .args .count + c .before .before .loop .j) (run (entry (c .before .before) .args .count + c .before .before .loop .j + (c .before .before .loop .earlier + c .rounded2 .result)) (entry (c .before .before) .args .base - (entry (c .before .before) .args .count + c .before .before .loop .j)))
+last : (c : tie.After-rounded2 Inv-loop μ-loop) → let at = c .before .before in Seeks (basePlaces (entry at .args .base) (chunks at)) (entry at .args .count + at .loop .j) (run (entry at .args .count + at .loop .j + (at .loop .earlier + c .rounded2 .result)) (entry at .args .base - (entry at .args .count + at .loop .j)))
 last c =
-    let h = behind (c .before) in
     let at = c .before .before .loop in
+    let h = behind (c .before) in
     let more = at .inv .3 in
     gap-last _ _ _ _ _ (at .w) (h .walk) (omega arith) (c .rounded2 .ensures .0) (rw (h .none) at (at .inv .5))
 

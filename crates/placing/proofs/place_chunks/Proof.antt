@@ -45,17 +45,20 @@ behind : (c : tie.After-loop Inv-loop μ-loop) → Behind (entry (c .before) .ar
 behind c = let at = c .before .loop in behind-all _ (at .i) _ _ (at .w) (search needs) (entry (c .before) .pre .0) (at .inv .1) (omega arith) (at .inv .0)
 
 -- The bytes of a chunk that the segment ends.
-step : (c : tie.After-least2 Inv-loop μ-loop) →
-    Copying (places (chunks (c .before .before .before .before .before .before .before))) (entry (c .before .before .before .before .before .before .before) .args .count) (c .before .before .before .before .before .before .before .loop .j) (c .before .before .least .result) (c .before .before .before .before .before .before .before .loop .w .at + c .least2 .result) (now (entry (c .before .before .before .before .before .before .before) .args .piece)) (now (entry (c .before .before .before .before .before .before .before) .args .out)) (c .before .before .before .before .before .before .before .loop .out)
-    (ChunkSought (chunks (c .before .before .before .before .before .before .before)) (entry (c .before .before .before .before .before .before .before) .args .count + (c .before .before .before .before .before .before .before .loop .j + c .before .before .least .result)) (c .before .before .before .before .before .before .before .loop .left + c .before .before .least .result - c .before .before .before .before .ended .result) (joinedRun (c .before .before .before .before .before .before .before .loop .w) (getD (entry (c .before .before .before .before .before .before .before) .args .t3) (c .before .before .before .before .before .before .before .loop .i) zeroReadSegment)) (drop (c .before .before .before .before .before .before .before .loop .i + 1) (take (entry (c .before .before .before .before .before .before .before) .args .n) (entry (c .before .before .before .before .before .before .before) .args .t3))))
-step c =
-    let a = entry (c .before .before .before .before .before .before .before) .args in
-    let pre = entry (c .before .before .before .before .before .before .before) .pre in
-    let at = c .before .before .before .before .before .before .before .loop in
-    let h = known (c .before .before .before .before .before .before) in
-    let share : c .before .before .least .result ≡ min (c .before .before .before .before .ended .result - at .left) (length (now (a .piece)) - at .j) = rw (← (c .before .before .before .ahead .ensures)) (c .before .before .least .ensures) in
-    rw (c .least2 .ensures)
-    (chunk-step _ (at .w) (getD (a .t3) (at .i) zeroReadSegment) _ (h .walk) (a .count) (at .j) (at .left) (rw (h .rest) at (at .inv .5)) _ (c .before .before .before .before .ended .ensures) (now (a .piece)) (at .inv .3) _ share (a .base) (pre .1 .stand) (rw (h .rest) at (at .inv .6)) (pre .3) _ (at .out) (rw (at .inv .2) (pre .2)) (at .inv .4))
+module _ (c : tie.After-least2 Inv-loop μ-loop) where
+  abbrev top : tie.At-loop Inv-loop μ-loop
+  top = c .before .before .before .before .before .before .before
+
+  step :
+      Copying (places (chunks top)) (entry top .args .count) (top .loop .j) (c .before .before .least .result) (top .loop .w .at + c .least2 .result) (now (entry top .args .piece)) (now (entry top .args .out)) (top .loop .out)
+      (ChunkSought (chunks top) (entry top .args .count + (top .loop .j + c .before .before .least .result)) (top .loop .left + c .before .before .least .result - c .before .before .before .before .ended .result) (joinedRun (top .loop .w) (getD (entry top .args .t3) (top .loop .i) zeroReadSegment)) (drop (top .loop .i + 1) (take (entry top .args .n) (entry top .args .t3))))
+  step =
+      let a = entry top .args in
+      let pre = entry top .pre in
+      let at = top .loop in
+      let h = known (c .before .before .before .before .before .before) in
+      let share : c .before .before .least .result ≡ min (c .before .before .before .before .ended .result - at .left) (length (now (a .piece)) - at .j) = rw (← (c .before .before .before .ahead .ensures)) (c .before .before .least .ensures) in
+      chunk-step _ (at .w) (getD (a .t3) (at .i) zeroReadSegment) _ (h .walk) (a .count) (at .j) (at .left) (rw (h .rest) at (at .inv .5)) _ (c .before .before .before .before .ended .ensures) (now (a .piece)) (at .inv .3) _ share (a .base) (pre .1 .stand) (rw (h .rest) at (at .inv .6)) (pre .3) _ (c .least2 .ensures) _ (at .out) (rw (at .inv .2) (pre .2)) (at .inv .4)
 
 -- The run of the last bytes.
 last : (c : tie.After-loop Inv-loop μ-loop) → LastByte (chunks (c .before)) (entry (c .before) .args .count + c .before .loop .j) (c .before .loop .left) (c .before .loop .w)
@@ -150,7 +153,6 @@ loop-again c =
 
 add-copy-at-2 : tie.Need-add-copy-at-2 Inv-loop μ-loop
 add-copy-at-2 c =
-    let start = entry (c .before .before .before) in
     let h = behind (c .before .before) in
     let byte = last (c .before .before) in
     let there = byte .some in
