@@ -11,7 +11,7 @@ use lib.Dec.{leb, ltb, eqb}
 use borrow.Author.Tests.{leb-true, leb-false, ltb-true, ltb-false, eqb-true, eqb-false}
 use Rattle.wire.specs.Wire.{stored}
 use Rattle.wire.specs.declared.ReadSegment.{ReadSegment}
-use Rattle.wire.proofs.Laws.{both-hold, part-from}
+use Rattle.wire.proofs.Laws.{both-hold}
 use Rattle.layout.specs.Places.{from, put}
 use Rattle.layout.specs.Layout.{run, otherChunks, roundedUp, roundedTotal, stands, places, gaps, paddings, paddingPlaces, basePlaces, messageLength}
 use Rattle.layout.specs.Walks.{totalLength, joinedRun, endedLength, remaining, Seeks}
@@ -259,10 +259,7 @@ placed-none all count j m at piece before out after z now then =
     let same : j + m ≡ j = omega arith in
     then ∙ rw (none, same) now
 
--- The last bytes: how many they are, and that they come to their places.
-pub rest-length : (j : ℕ) (piece : List ℕ) → length (take (length piece - j) (drop j piece)) ≡ length piece - j
-rest-length j piece = rw (part-from j piece, length-drop)
-
+-- The last bytes.
 pub placed-rest : (all : List ℕ) (count j : ℕ) (r : Run) (piece before out after : List ℕ) → Seeks all (count + j) r → j ≤ length piece → length piece - j ≤ r .length →
     out ≡ put (drop count all) (take j piece) before → after ≡ stored out (r .at) (take (length piece - j) (drop j piece)) → after ≡ put (drop count all) piece before
 placed-rest all count j r piece before out after s fits most now then =

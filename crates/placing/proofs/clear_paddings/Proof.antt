@@ -40,7 +40,7 @@ ended-requires : tie.Need-ended-requires Inv-loop μ-loop
 ended-requires c κs = search needs
 
 add-clear-at : tie.Need-add-clear-at Inv-loop μ-loop
-add-clear-at c = let h = known (c .before .before .before .before) in let e = c .before .before .ended .ensures in omega arith
+add-clear-at c = let h = known (c .before .before .before .before) in omega arith
 
 padding-requires : tie.Need-padding-requires Inv-loop μ-loop
 padding-requires c κs = let h = known (c .before .before .before .before) in rw (c .before .before .ended .ensures) (omega arith)
@@ -57,7 +57,7 @@ clear-at-requires c κs =
     omega arith
 
 joined-requires : tie.Need-joined-requires Inv-loop μ-loop
-joined-requires c κs = let h = known (c .before .before .before .before .before .before .before .before) in omega arith
+joined-requires c κs = omega arith
 
 add-i : tie.Need-add-i Inv-loop μ-loop
 add-i c = search needs
@@ -74,17 +74,16 @@ loop-again c =
     (search needs, h .onward 0 _ (omega arith) (c .joined .ensures .0) (c .joined .ensures .1), ap length (next .filled) ∙ length-put _ _ _, rw (c .joined .ensures .0) next)
 
 add-clear-at-2 : tie.Need-add-clear-at-2 Inv-loop μ-loop
-add-clear-at-2 c = let h = behind (c .before .before) in omega arith
+add-clear-at-2 c = omega arith
 
 padding-requires-2 : tie.Need-padding-requires-2 Inv-loop μ-loop
-padding-requires-2 c κs = let h = behind (c .before .before) in omega arith
+padding-requires-2 c κs = omega arith
 
 clear-at-requires-2 : tie.Need-clear-at-requires-2 Inv-loop μ-loop
 clear-at-requires-2 c κs =
     let start = c .before .before .before .before .before .before in
     let at = c .before .before .before .before .loop in
     let h = behind (c .before .before .before) in
-    let pad = c .padding2 .ensures .0 in
     let within = last-within (start .args .base) _ (at .w) (start .pre .1 .stand) (h .walk) (rw (h .none) at (at .inv .3) .parts) in
     let up = rounded-most (at .w .length) .0 in
     omega arith

@@ -6,10 +6,10 @@ use native.Mathlib.Nat.{sub-zero}
 use native.Mathlib.Omega.{arith}
 use mathlib.Core.Bool.{cond}
 use denote.Ref.{now}
-use lib.ListN.{length}
+use lib.ListN.{length, length-drop}
 use Rattle.wire.proofs.Laws.{part-from}
 use Rattle.layout.proofs.Putting.{length-put}
-use Rattle.placing.proofs.Laws.{rest-length, base-part, chunk-part, in-two}
+use Rattle.placing.proofs.Laws.{base-part, chunk-part, in-two}
 use borrow.Author.Needs.{needs}
 use Rattle.placing.proofs.place.Statement.{statement}
 use Rattle.placing.proofs.place.Tie as tie
@@ -60,7 +60,7 @@ place-chunks-requires c κs =
     let a = c .before .before .before .before .before .before .before .before .before .before .before .before .before .args in
     let pre = c .before .before .before .before .before .before .before .before .before .before .before .before .before .pre in
     let kept = ap length (c .before .before .before .before .before .place-base .ensures) ∙ length-put _ _ _ in
-    (pre .0, pre .1, rw kept (pre .2), rw (c .behind-base .ensures, rest-length (c .before .before .before .before .before .before .before .before .before .least .result) (now (a .piece))) (chunk-part (a .base) _ (pre .1 .stand) (a .count) _ (now (a .piece)) (now (a .out)) (a .based) (share (c .before .before .before .before .before .before .before .before .before)) (pre .3)))
+    (pre .0, pre .1, rw kept (pre .2), rw (c .behind-base .ensures, part-from (c .before .before .before .before .before .before .before .before .before .least .result) (now (a .piece)), length-drop) (chunk-part (a .base) _ (pre .1 .stand) (a .count) _ (now (a .piece)) (now (a .out)) (a .based) (share (c .before .before .before .before .before .before .before .before .before)) (pre .3)))
 
 same-length : tie.Need-same-length
 same-length c = search needs

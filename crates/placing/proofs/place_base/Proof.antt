@@ -16,7 +16,7 @@ use Rattle.layout.specs.declared.Run.{Run}
 use Rattle.layout.proofs.Putting.{length-put, put-none}
 use Rattle.layout.proofs.Remaining.{Along, along-start, Here, here, Behind, behind-all}
 use Rattle.layout.proofs.Seeking.{GapSought, gap-start, gap-last}
-use Rattle.placing.proofs.Laws.{placed-empty, Copying, base-step, rest-length, placed-rest, seek-within, within-base}
+use Rattle.placing.proofs.Laws.{placed-empty, Copying, base-step, placed-rest, seek-within, within-base}
 use Rattle.placing.proofs.place_base.Statement.{statement}
 use Rattle.placing.proofs.place_base.Tie as tie
 
@@ -65,14 +65,13 @@ last : (c : tie.After-rounded2 Inv-loop μ-loop) → let at = c .before .before 
 last c =
     let at = c .before .before .loop in
     let h = behind (c .before) in
-    let more = at .inv .3 in
     gap-last _ _ _ _ _ (at .w) (h .walk) (omega arith) (c .rounded2 .ensures .0) (rw (h .none) at (at .inv .5))
 
 returns : tie.Need-returns Inv-loop μ-loop
 returns c = placed-empty _ (now (c .before .before .before .args .piece)) _ (c .if1 .taken)
 
 loop-holds : tie.Need-loop-holds Inv-loop μ-loop
-loop-holds c = let none = c .if1 .left in (search needs, along-start _ (c .before .before .before .pre .1 .rise), refl, omega arith, sym (put-none _ _), rw add-zero (gap-start _ _ _ (c .before .before .before .pre .1 .stand)))
+loop-holds c = (search needs, along-start _ (c .before .before .before .pre .1 .rise), refl, omega arith, sym (put-none _ _), rw add-zero (gap-start _ _ _ (c .before .before .before .pre .1 .stand)))
 
 mul-x : tie.Need-mul-x Inv-loop μ-loop
 mul-x c = search needs
@@ -90,39 +89,36 @@ rounded-requires : tie.Need-rounded-requires Inv-loop μ-loop
 rounded-requires c κs = let h = known (c .before .before .before) in rw (c .ended .ensures) (omega arith)
 
 add-earlier : tie.Need-add-earlier Inv-loop μ-loop
-add-earlier c = let h = known (c .before .before .before .before) in let r = c .rounded .ensures .2 in let e = c .before .ended .ensures in omega arith
+add-earlier c = let h = known (c .before .before .before .before) in omega arith
 
 add-here : tie.Need-add-here Inv-loop μ-loop
-add-here c = let h = known (c .before .before .before .before) in let small = entry (c .before .before .before .before .before) .pre .1 .small in omega arith
+add-here c = omega arith
 
 add-here-2 : tie.Need-add-here-2 Inv-loop μ-loop
 add-here-2 c =
     let h = known (c .before .before .before .before) in
-    let small = entry (c .before .before .before .before .before) .pre .1 .small in
-    let r = c .rounded .ensures .2 in
-    let e = c .before .ended .ensures in
     omega arith
 
 ahead-requires : tie.Need-ahead-requires Inv-loop μ-loop
 ahead-requires c κs = search needs
 
 sub-least : tie.Need-sub-least Inv-loop μ-loop
-sub-least c = let more = c .before .before .before .before .before .before .loop .inv .3 in omega arith
+sub-least c = omega arith
 
 least-requires : tie.Need-least-requires Inv-loop μ-loop
 least-requires c κs = search needs
 
 add-e : tie.Need-add-e Inv-loop μ-loop
-add-e c = let more = c .before .before .before .before .before .before .before .loop .inv .3 in let near = c .least .ensures in omega arith
+add-e c = omega arith
 
 sub-copy-at : tie.Need-sub-copy-at Inv-loop μ-loop
-sub-copy-at c = let near = c .before .least .ensures in omega arith
+sub-copy-at c = omega arith
 
 part-copy-at-start : tie.Need-part-copy-at-start Inv-loop μ-loop
-part-copy-at-start c = let near = c .before .least .ensures in omega arith
+part-copy-at-start c = omega arith
 
 part-copy-at-end : tie.Need-part-copy-at-end Inv-loop μ-loop
-part-copy-at-end c = let more = c .before .before .before .before .before .before .before .before .loop .inv .3 in let near = c .before .least .ensures in omega arith
+part-copy-at-end c = omega arith
 
 copy-at-requires : tie.Need-copy-at-requires Inv-loop μ-loop
 copy-at-requires c κs = step (c .before .before) .room
@@ -134,7 +130,7 @@ returns-2 : tie.Need-returns-2 Inv-loop μ-loop
 returns-2 c = step (c .before .before .before .before .before .before) .placed _ (c .before .before .before .copy-at .ensures) ∙ rw (c .if2 .taken, take-length)
 
 joined-requires : tie.Need-joined-requires Inv-loop μ-loop
-joined-requires c κs = let h = known (c .before .before .before .before .before .before .before .before .before .before .before .before) in omega arith
+joined-requires c κs = omega arith
 
 add-i : tie.Need-add-i Inv-loop μ-loop
 add-i c = search needs
@@ -148,28 +144,28 @@ loop-again c =
     let h = known (c .before .before .before .before .before .before .before .before .before .before .before .before .before) in
     let s = step (c .before .before .before .before .before .before .before) in
     let after = s .placed _ (c .before .before .before .before .copy-at .ensures) in
-    let further : at .j + c .before .before .before .before .before .before .before .least .result < length (now (entry (c .before .before .before .before .before .before .before .before .before .before .before .before .before .before) .args .piece)) = (let more = at .inv .3 in let near = c .before .before .before .before .before .before .before .least .ensures in let left = c .before .if2 .left in omega arith) in
+    let further : at .j + c .before .before .before .before .before .before .before .least .result < length (now (entry (c .before .before .before .before .before .before .before .before .before .before .before .before .before .before) .args .piece)) = (let more = at .inv .3 in let near = c .before .before .before .before .before .before .before .least .ensures in omega arith) in
     let grown = rw (c .before .before .before .before .before .before .before .before .before .before .ended .ensures) at (c .before .before .before .before .before .before .before .before .before .rounded .ensures .2) in
     let joined = c .joined .ensures in
     (search needs, h .onward _ _ grown (joined .0) (joined .1), ap length after ∙ length-put _ _ _, further, after, rw (joined .0) (s .next further))
 
 add-here-3 : tie.Need-add-here-3 Inv-loop μ-loop
-add-here-3 c = let h = behind c in let small = entry (c .before) .pre .1 .small in omega arith
+add-here-3 c = omega arith
 
 add-here-4 : tie.Need-add-here-4 Inv-loop μ-loop
-add-here-4 c = let h = behind c in let small = entry (c .before) .pre .1 .small in omega arith
+add-here-4 c = omega arith
 
 rounded-requires-2 : tie.Need-rounded-requires-2 Inv-loop μ-loop
-rounded-requires-2 c κs = let h = behind c in omega arith
+rounded-requires-2 c κs = omega arith
 
 add-here-5 : tie.Need-add-here-5 Inv-loop μ-loop
-add-here-5 c = let h = behind (c .before) in let small = entry (c .before .before) .pre .1 .small in let r = c .rounded2 .ensures .2 in omega arith
+add-here-5 c = omega arith
 
 sub-copy-at-2 : tie.Need-sub-copy-at-2 Inv-loop μ-loop
 sub-copy-at-2 c = search needs
 
 part-copy-at-start-2 : tie.Need-part-copy-at-start-2 Inv-loop μ-loop
-part-copy-at-start-2 c = let more = c .before .before .before .loop .inv .3 in omega arith
+part-copy-at-start-2 c = omega arith
 
 part-copy-at-end-2 : tie.Need-part-copy-at-end-2 Inv-loop μ-loop
 part-copy-at-end-2 c = search needs
@@ -178,7 +174,6 @@ copy-at-requires-2 : tie.Need-copy-at-requires-2 Inv-loop μ-loop
 copy-at-requires-2 c κs =
     let a = entry (c .before .before .before .before) .args in
     let within = seek-within _ _ _ _ (last (c .before .before)) (within-base (a .base) _ (entry (c .before .before .before .before) .pre .1 .stand)) in
-    let rest = rest-length (c .before .before .before .before .loop .j) (now (a .piece)) in
     omega arith
 
 same-length-2 : tie.Need-same-length-2 Inv-loop μ-loop

@@ -18,7 +18,7 @@ use Rattle.layout.proofs.Putting.{length-put, length-places, put-none}
 use Rattle.layout.proofs.Stood.{rounded-most}
 use Rattle.layout.proofs.Remaining.{Along, along-start, Here, here, Behind, behind-all}
 use Rattle.layout.proofs.Seeking.{ChunkSought, chunk-start, LastByte, chunk-last}
-use Rattle.placing.proofs.Laws.{placed-empty, left-fits, Parted, parted-start, parted-next, Copying, chunk-step, rest-length, placed-rest, last-within, source-most}
+use Rattle.placing.proofs.Laws.{placed-empty, left-fits, Parted, parted-start, parted-next, Copying, chunk-step, placed-rest, last-within, source-most}
 use Rattle.placing.proofs.place_chunks.Statement.{statement}
 use Rattle.placing.proofs.place_chunks.Tie as tie
 
@@ -68,7 +68,7 @@ returns : tie.Need-returns Inv-loop μ-loop
 returns c = placed-empty _ (now (c .before .before .before .args .piece)) _ (c .if1 .taken)
 
 loop-holds : tie.Need-loop-holds Inv-loop μ-loop
-loop-holds c = let none = c .if1 .left in let fits = c .before .before .before .pre .3 in (search needs, along-start _ (c .before .before .before .pre .1 .rise), refl, omega arith, sym (put-none _ _), rw add-zero (chunk-start _ _ (omega arith)), parted-start _, omega arith)
+loop-holds c = (search needs, along-start _ (c .before .before .before .pre .1 .rise), refl, omega arith, sym (put-none _ _), rw add-zero (chunk-start _ _ (omega arith)), parted-start _, omega arith)
 
 mul-x : tie.Need-mul-x Inv-loop μ-loop
 mul-x c = search needs
@@ -83,28 +83,28 @@ ahead-requires : tie.Need-ahead-requires Inv-loop μ-loop
 ahead-requires c κs = search needs
 
 sub-least : tie.Need-sub-least Inv-loop μ-loop
-sub-least c = let more = c .before .before .before .before .loop .inv .3 in omega arith
+sub-least c = omega arith
 
 least-requires : tie.Need-least-requires Inv-loop μ-loop
 least-requires c κs = search needs
 
 add-e : tie.Need-add-e Inv-loop μ-loop
-add-e c = let more = c .before .before .before .before .before .loop .inv .3 in let near = c .least .ensures in omega arith
+add-e c = omega arith
 
 least-requires-2 : tie.Need-least-requires-2 Inv-loop μ-loop
 least-requires-2 c κs = search needs
 
 add-copy-at : tie.Need-add-copy-at Inv-loop μ-loop
-add-copy-at c = let h = known (c .before .before .before .before .before .before .before) in let e = c .before .before .before .before .before .ended .ensures in let near = c .before .least2 .ensures in omega arith
+add-copy-at c = let h = known (c .before .before .before .before .before .before .before) in omega arith
 
 sub-copy-at : tie.Need-sub-copy-at Inv-loop μ-loop
-sub-copy-at c = let near = c .before .before .before .least .ensures in omega arith
+sub-copy-at c = omega arith
 
 part-copy-at-start : tie.Need-part-copy-at-start Inv-loop μ-loop
-part-copy-at-start c = let near = c .before .before .before .least .ensures in omega arith
+part-copy-at-start c = omega arith
 
 part-copy-at-end : tie.Need-part-copy-at-end Inv-loop μ-loop
-part-copy-at-end c = let more = c .before .before .before .before .before .before .before .before .loop .inv .3 in let near = c .before .before .before .least .ensures in omega arith
+part-copy-at-end c = omega arith
 
 copy-at-requires : tie.Need-copy-at-requires Inv-loop μ-loop
 copy-at-requires c κs = step (c .before .before) .room
@@ -131,13 +131,13 @@ sub-left c =
     omega arith
 
 joined-requires : tie.Need-joined-requires Inv-loop μ-loop
-joined-requires c κs = let h = known (c .before .before .before .before .before .before .before .before .before .before .before .before) in omega arith
+joined-requires c κs = omega arith
 
 add-i : tie.Need-add-i Inv-loop μ-loop
 add-i c = search needs
 
 loop-less : tie.Need-loop-less Inv-loop μ-loop
-loop-less c = let lt = c .before .before .before .before .before .before .before .before .before .before .before .before .before .loop-test .taken in omega arith
+loop-less c = omega arith
 
 loop-again : tie.Need-loop-again Inv-loop μ-loop
 loop-again c =
@@ -153,16 +153,14 @@ loop-again c =
 
 add-copy-at-2 : tie.Need-add-copy-at-2 Inv-loop μ-loop
 add-copy-at-2 c =
-    let h = behind (c .before .before) in
     let byte = last (c .before .before) in
-    let there = byte .some in
     omega arith
 
 sub-copy-at-2 : tie.Need-sub-copy-at-2 Inv-loop μ-loop
 sub-copy-at-2 c = search needs
 
 part-copy-at-start-2 : tie.Need-part-copy-at-start-2 Inv-loop μ-loop
-part-copy-at-start-2 c = let more = c .before .before .before .loop .inv .3 in omega arith
+part-copy-at-start-2 c = omega arith
 
 part-copy-at-end-2 : tie.Need-part-copy-at-end-2 Inv-loop μ-loop
 part-copy-at-end-2 c = search needs
@@ -173,11 +171,8 @@ copy-at-requires-2 c κs =
     let at = c .before .before .before .before .loop in
     let h = behind (c .before .before .before) in
     let byte = last (c .before .before .before) in
-    let there = byte .some in
-    let behind-it = byte .rest in
     let within = last-within (start .args .base) _ (at .w) (start .pre .1 .stand) (h .walk) (rw (h .none) at (at .inv .6)) in
     let up = rounded-most (at .w .length) .0 in
-    let rest = rest-length (at .j) (now (start .args .piece)) in
     omega arith
 
 same-length-2 : tie.Need-same-length-2 Inv-loop μ-loop
@@ -188,8 +183,6 @@ returns-3 c =
     let a = entry (c .before .before .before .before .before .before .before) .args in
     let at = c .before .before .before .before .before .before .before .loop in
     let byte = last (c .before .before .before .before .before .before) in
-    let there = byte .some in
-    let behind-it = byte .rest in
     placed-rest _ (a .count) (at .j) _ (now (a .piece)) (now (a .out)) (at .out) _ (byte .seeks) (omega arith) (omega arith) (at .inv .4) (c .before .before .copy-at2 .ensures)
 
 pub place-chunks-spec : {M : Type 1} → statement M

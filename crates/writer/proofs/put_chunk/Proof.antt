@@ -35,7 +35,6 @@ returns : tie.Need-returns
 unfolding chunkBytes countedBytes wordBytes
 returns c =
     let a = c .before .before .before .before .before .before .before .before .before .before .before .before .before .args in
-    let full : length (a .segments) ≡ 16 = search needs in
     let count : length (take (a .n) (drop (a .i) (a .segments))) ≡ a .n = length-take-le _ _ (rw length-drop (omega arith)) in
     rw count (then _ _ _ _ _ _ _ (then _ _ _ _ _ _ _ (c .before .before .before .before .before .before .before .before .before .before .put-word .ensures) (c .before .before .before .before .before .before .put-word2 .ensures) refl) (c .before .before .put-segments .ensures) refl)
 

@@ -59,7 +59,6 @@ unfolding entryBytes wordBytes
 loop-again c =
     let a = c .before .before .before .before .before .before .before .before .before .before .before .before .args in
     let at = c .before .before .before .before .before .before .before .before .before .before .loop in
-    let full : length (a .t3) ≡ 16 = search needs in
     let entry = then _ _ _ _ _ _ _ (c .before .before .before .before .before .before .put-word .ensures) (c .before .before .put-read-segment .ensures) refl in
     (search needs, search needs, stored-next entryBytes 24 entry-length (a .t3) zeroReadSegment (at .j) (a .k) (omega arith) _ _ _ (at .inv .2) entry)
 
@@ -80,7 +79,6 @@ unfolding readListBytes
 returns c =
     let a = c .before .before .before .before .before .before .before .args in
     let at = c .before .before .before .before .before .loop in
-    let full : length (a .t3) ≡ 16 = search needs in
     let e : at .j ≡ a .n = omega arith in
     stored-behind entryBytes 24 entry-length (a .t3) (a .n) (a .k) (omega arith) _ _ _ _ (rw e at (at .inv .2)) (c .before .before .put-word2 .ensures)
 

@@ -48,7 +48,6 @@ loop-again : tie.Need-loop-again Inv-loop μ-loop
 loop-again c =
     let a = c .before .before .before .before .before .before .before .before .args in
     let at = c .before .before .before .before .before .before .loop in
-    let full : length (a .t3) ≡ 16 = search needs in
     (search needs, search needs, stored-next segmentBytes 16 segment-length (drop (a .i) (a .t3)) zeroSegment (at .j) (a .k) (rw length-drop (omega arith)) _ _ _ (at .inv .2) (rw getD-drop (c .before .before .put-segment .ensures)))
 
 same-length : tie.Need-same-length Inv-loop μ-loop

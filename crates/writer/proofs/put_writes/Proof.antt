@@ -25,15 +25,12 @@ abbrev μ-loop : tie.MeasureT-loop
 few : (c : tie.In-loop Inv-loop μ-loop) → total (take (c .before .loop .j) (c .before .before .before .args .t4)) + getD (c .before .before .before .args .t4) (c .before .loop .j) 0 ≤ total (take (c .before .before .before .args .n) (c .before .before .before .args .t4))
 few c =
     let a = c .before .before .before .args in
-    let full : length (a .t4) ≡ 4 = search needs in
     total-within (a .t4) (c .before .loop .j) (a .n) (c .loop-test .taken) (omega arith)
 
 -- The first chunks end where the loop stands.
 place : (c : tie.At-loop Inv-loop μ-loop) → total (take (c .loop .j) (c .before .before .args .t4)) ≤ 16 → c .before .before .args .k + length (joined chunkBytes (runs (take (c .loop .j) (c .before .before .args .t4)) (c .before .before .args .segments))) ≡ c .loop .end
 place c h =
     let a = c .before .before .args in
-    let full : length (a .t4) ≡ 4 = search needs in
-    let whole : length (a .segments) ≡ 16 = search needs in
     rw (chunks-length (take (c .loop .j) (a .t4)) (a .segments) (omega arith), length-take-le (c .loop .j) (a .t4) (omega arith)) (omega arith)
 
 -- Behind the loop those are all.
@@ -82,7 +79,6 @@ loop-again c =
     let a = c .before .before .before .before .before .before .before .args in
     let at = c .before .before .before .before .before .loop in
     let h = few (c .before .before .before .before) in
-    let full : length (a .t4) ≡ 4 = search needs in
     let next = total-next (a .t4) (at .j) (omega arith) in
     (search needs, search needs, omega arith, omega arith, rw (runs-next (a .t4) (at .j) (a .segments) (omega arith), joined-snoc, ← (at .inv .2)) (then _ _ _ _ _ _ _ (at .inv .4) (c .before .before .put-chunk .ensures) (place (c .before .before .before .before .before) (omega arith))))
 

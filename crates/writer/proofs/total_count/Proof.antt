@@ -2,7 +2,7 @@
 use mathlib.Core.Path.{_≡_, refl, ap}
 use Prim.Native.Nat.{_+_, _*_, _≤_, _-_}
 use native.Mathlib.Omega.{arith}
-use lib.ListN.{length, take, getD}
+use lib.ListN.{take, getD}
 use mir.Syntax.{w32}
 use mir.Val.{Fits}
 use borrow.Author.Needs.{needs}
@@ -42,7 +42,6 @@ loop-less c = search needs
 loop-again : tie.Need-loop-again Inv-loop μ-loop
 loop-again c =
     let small : Fits w32 (getD (c .before .before .args .t1) (c .before .loop .k) 0) = search needs in
-    let full : length (c .before .before .args .t1) ≡ 4 = search needs in
     (search needs, rw (total-next (c .before .before .args .t1) (c .before .loop .k) (omega arith)) (ap (λ t. t + getD (c .before .before .args .t1) (c .before .loop .k) 0) (c .before .loop .inv .1)), omega arith)
 
 returns : tie.Need-returns Inv-loop μ-loop
