@@ -59,8 +59,6 @@ within-gaps : (n start most : ℕ) (cs : List Run) → start ≤ most → Placed
 unfolding Placed roundedTotal places gaps Within
 within-gaps n start most [] s p h = within-append n (from start (n - start)) [] (within-from n start (n - start) (omega arith)) tt
 within-gaps n start most (c ∷ cs) s p h =
-    let near = p .1 in
-    let behind = p .0 in
     within-append n (from start (c .at - start)) _ (within-from n start (c .at - start) (omega arith))
     (within-gaps n (c .at + roundedUp (c .length)) (most + roundedUp (c .length)) cs (omega arith) (p .2) (omega arith))
 
@@ -69,8 +67,6 @@ length-gaps : (start most m : ℕ) (cs : List Run) → start ≤ most → Placed
 unfolding Placed roundedTotal places gaps
 length-gaps start most m [] s p e = rw (append-nil, length-from) (omega arith)
 length-gaps start most m (c ∷ cs) s p e =
-    let near = p .1 in
-    let behind = p .0 in
     rw (length-append, length-from)
     (omega (arith, length-gaps (c .at + roundedUp (c .length)) (most + roundedUp (c .length)) m cs (omega arith) (p .2) (omega arith)))
 
@@ -140,7 +136,7 @@ zeros-next ps out k n =
 -- A chunk among others ends within the message, its padding too.
 placed-there : (end most : ℕ) (ds rs : List Run) (c : Run) → Placed end most (ds ++ (c ∷ rs)) → c .at + roundedUp (c .length) ≤ most + roundedTotal (ds ++ (c ∷ rs))
 unfolding Placed roundedTotal
-placed-there end most [] rs c p = let near = p .1 in omega arith
+placed-there end most [] rs c p = omega arith
 placed-there end most (d ∷ ds) rs c p = omega (arith, placed-there (d .at + roundedUp (d .length)) (most + roundedUp (d .length)) ds rs c (p .2))
 
 chunk-within : (base : ℕ) (cs ds rs : List Run) (c : Run) → stands base 0 0 cs ≡ true → cs ≡ ds ++ (c ∷ rs) → c .at + roundedUp (c .length) ≤ messageLength base cs
@@ -154,7 +150,7 @@ pub record Parted (cs : List Run) (w : Run) (xs : List ReadSegment) : Type 0 whe
 pub parted-start : (xs : List ReadSegment) → Parted (otherChunks xs) (run 0 0) xs
 parted-start xs = record { past = []; all = rw (at-first xs) }
 
-ended-parted : (cs past : List Run) (c w : Run) (xs : List ReadSegment) → cs ≡ past ++ (c ∷ remaining w xs) → Parted cs w xs
+abbrev ended-parted : (cs past : List Run) (c w : Run) (xs : List ReadSegment) → cs ≡ past ++ (c ∷ remaining w xs) → Parted cs w xs
 ended-parted cs past c w xs e = record { past = past ++ (c ∷ []); all = e ∙ sym (append-assoc past (c ∷ []) (remaining w xs)) }
 
 module _ (cs : List Run) (w : Run) (x : ReadSegment) (xs : List ReadSegment) (k : Walk w (x ∷ xs)) (p : Parted cs w (x ∷ xs)) where
@@ -212,7 +208,7 @@ padded-more : (cs past : List Run) (c : Run) (w : Run) (xs : List ReadSegment) (
 unfolding paddingPlaces
 padded-more cs past c w xs n before out after all e now then =
     record {
-      parts = record { past = past ++ (c ∷ []); all = all ∙ sym (append-assoc past (c ∷ []) (remaining w xs)) };
+      parts = ended-parted cs past c w xs all;
       filled = then ∙ rw (paddings-next past c, places-next, now, e) (sym (zeros-next (places (paddings past)) before (c .at + c .length) (roundedUp (c .length) - c .length)));
     }
 
@@ -290,7 +286,6 @@ module _ (base : ℕ) (cs : List Run) (w : Run) (earlier : ℕ) (x : ReadSegment
       by : (b : Bool) → ltb (count + j + (earlier + size)) (x .position) ≡ b → count + j + (earlier + size) + m ≤ messageLength base cs
       by true t =
           let ends-in = seek-within (messageLength base cs) _ _ _ (gap-here base cs (count + j) earlier w x xs walk s size e (ltb-true _ _ t)) (within-base base cs stand) in
-          let here = ltb-true (count + j + (earlier + size)) (x .position) t in
           omega arith
       by false t =
           let past = ltb-false (count + j + (earlier + size)) (x .position) t in
