@@ -57,7 +57,7 @@ module _ (c : tie.After-least Inv-loop μ-loop) where
       let h = known (c .before .before .before .before .before .before) in
       let x = getD (a .t3) (at .i) zeroReadSegment in
       let size : c .before .before .rounded .result ≡ roundedUp (endedLength (at .w) x) = rw (← (c .before .before .before .ended .ensures)) (c .before .before .rounded .ensures .0) in
-      let share : c .least .result ≡ min (x .position - (a .count + at .j + (at .earlier + c .before .before .rounded .result))) (length (now (a .piece)) - at .j) = rw (← (c .before .before .before .before .wide .ensures .0), ← (c .before .ahead .ensures)) (c .least .ensures) in
+      let share : c .least .result ≡ min (x .position - (a .count + at .j + (at .earlier + c .before .before .rounded .result))) (length (now (a .piece)) - at .j) = omega arith in
       base-step (a .base) _ (at .w) (at .earlier) x _ (h .walk) (a .count) (at .j) (rw (h .rest) at (at .inv .5)) _ size (now (a .piece)) (at .inv .3) _ share (pre .1 .stand) (pre .3) _ (at .out) (rw (at .inv .2) (pre .2)) (at .inv .4)
 
 -- The run of the last bytes.

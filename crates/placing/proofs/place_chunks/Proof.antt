@@ -57,7 +57,7 @@ module _ (c : tie.After-least2 Inv-loop μ-loop) where
       let pre = entry top .pre in
       let at = top .loop in
       let h = known (c .before .before .before .before .before .before) in
-      let share : c .before .before .least .result ≡ min (c .before .before .before .before .ended .result - at .left) (length (now (a .piece)) - at .j) = rw (← (c .before .before .before .ahead .ensures)) (c .before .before .least .ensures) in
+      let share : c .before .before .least .result ≡ min (c .before .before .before .before .ended .result - at .left) (length (now (a .piece)) - at .j) = omega arith in
       chunk-step _ (at .w) (getD (a .t3) (at .i) zeroReadSegment) _ (h .walk) (a .count) (at .j) (at .left) (rw (h .rest) at (at .inv .5)) _ (c .before .before .before .before .ended .ensures) (now (a .piece)) (at .inv .3) _ share (a .base) (pre .1 .stand) (rw (h .rest) at (at .inv .6)) (pre .3) _ (c .least2 .ensures) _ (at .out) (rw (at .inv .2) (pre .2)) (at .inv .4)
 
 -- The run of the last bytes.
