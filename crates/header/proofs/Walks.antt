@@ -24,9 +24,10 @@ use Rattle.lists.specs.declared.ChunkStep.{ChunkStep}
 use Rattle.lists.specs.declared.ChunkStep.the-variants as chunk
 use Rattle.lists.proofs.Found.{checked, unchecked, reads-of, writes-of, reply-refused, reply-absent, reply-present}
 use Rattle.header.specs.Content.{Content}
-use Rattle.header.specs.Frame.{threeParts, errorBody, nothingBehind}
+use Rattle.header.specs.Frame.{threeParts, errorBody, nothingBehind, byProcedure, readFrame}
 use Rattle.header.specs.Shape.{shapeOf, errorShape, frameWalk, endedWalk}
 use Rattle.header.specs.declared.Kind.{Kind}
+use Rattle.header.specs.declared.Kind.the-variants.{Msg, Nomsg}
 use Rattle.header.specs.declared.ErrorKind.the-variants.{Version, Chunk}
 use Rattle.header.specs.declared.FrameWalk.the-variants as walk
 
@@ -212,3 +213,30 @@ nothing-behind size (done c t) h = go (eqb (length t) 0) refl
     go false q =
         let some-left = eqb-false (length t) 0 q in
         rw (q, ne-eqb (size - length t) size (λ e. omega arith))
+
+-- A frame that is long enough and has version 1, by its procedure.
+module _ (s : List ℕ) (version procedure : ℕ) (long : 16 ≤ length s) (fourth : version ≡ wordAt s 4) (one : version ≡ 1) (twelfth : procedure ≡ wordAt s 12) where
+  proceeds : readFrame s ≡ byProcedure procedure (wordAt s 0) (wordAt s 8) (drop 16 s)
+  unfolding readFrame
+  proceeds = rw (le-leb 16 (length s) long, ← fourth, eq-eqb version 1 one, ← twelfth)
+
+  pub frame-msg : procedure ≡ 0 → readFrame s ≡ threeParts Msg (wordAt s 0) (wordAt s 8) (drop 16 s)
+  unfolding byProcedure
+  frame-msg e = proceeds ∙ rw (eq-eqb procedure 0 e)
+
+  pub frame-nomsg : procedure ≡ 1 → readFrame s ≡ nothingBehind (threeParts Nomsg (wordAt s 0) (wordAt s 8) (drop 16 s))
+  unfolding byProcedure
+  frame-nomsg e = proceeds ∙ rw e
+
+  pub frame-done : procedure ≡ 3 → readFrame s ≡ refused 4
+  unfolding byProcedure
+  frame-done e = proceeds ∙ rw e
+
+  pub frame-error : procedure ≡ 4 → readFrame s ≡ nothingBehind (errorBody (wordAt s 0) (wordAt s 8) (drop 16 s))
+  unfolding byProcedure
+  frame-error e = proceeds ∙ rw e
+
+  pub frame-other : 1 < procedure → (procedure ≡ 3 → ⊥) → (procedure ≡ 4 → ⊥) → readFrame s ≡ refused 3
+  unfolding byProcedure
+  frame-other more a b =
+      proceeds ∙ rw (ne-eqb procedure 0 (λ e. omega arith), ne-eqb procedure 1 (λ e. omega arith), ne-eqb procedure 3 a, ne-eqb procedure 4 b)

@@ -9,7 +9,9 @@ use wire::Segment;
 use wire::Word;
 ghost use mathlib.Core.Path.{_≡_};
 ghost use Prim.Native.Nat.{_≤_};
+ghost use mathlib.Core.Bool.{cond};
 ghost use lib.ListN.{length, drop};
+ghost use lib.Dec.{eqb};
 ghost use Rattle.wire.specs.Wire.{wordAt};
 ghost use Rattle.header.specs.Frame.{readFrame, readAnswer, payloadOf, threeParts, errorBody};
 ghost use Rattle.header.specs.Content.{headerOf};
@@ -22,7 +24,7 @@ pub const OTHER_VERSION: u32 = 2;
 // "procedure is 2 or above 4"
 pub const OTHER_PROCEDURE: u32 = 3;
 // "procedure is 3"
-pub const PROCEDURE_DONE: u32 = 4;
+pub const DONE_REFUSED: u32 = 4;
 // "error code neither 1 nor 2"
 pub const OTHER_ERROR_CODE: u32 = 10;
 // "bytes behind a NOMSG or ERROR header"
@@ -41,7 +43,15 @@ pub const PROCEDURE_AT: usize = 12;
 
 pub const VERSION: u32 = 1;
 
+// "Procedures: 0 MSG, 1 NOMSG, 2 MSGP, 3 DONE, 4 ERROR."
+pub const PROCEDURE_MSG: u32 = 0;
+
+pub const PROCEDURE_NOMSG: u32 = 1;
+
+pub const PROCEDURE_DONE: u32 = 3;
+
 pub const PROCEDURE_ERROR: u32 = 4;
+
 // The fixed words and the marker that ends a read list.
 pub const EMPTY_READS_BYTES: usize = 20;
 
@@ -200,6 +210,16 @@ fn ended(walk: FrameWalk, size: usize) -> FrameWalk
     walk
 }
 
+// The kind of a header with lists.
+fn lists_kind(procedure: u32) -> Kind
+    ensures { λ r. ⌜ r ≡ cond (eqb procedure 0) Kind.Msg Kind.Nomsg ⌝ }
+{
+    if procedure == PROCEDURE_MSG {
+        return Kind::Msg;
+    }
+    Kind::Nomsg
+}
+
 // Checks a frame.
 pub fn walk_frame(s: &[u8]) -> FrameWalk
     ensures { λ r. ⌜ r ≡ frameWalk (length (now (s .entry))) (readFrame (now (s .entry))) ⌝ }
@@ -212,14 +232,21 @@ pub fn walk_frame(s: &[u8]) -> FrameWalk
         return FrameWalk::Refused(OTHER_VERSION);
     }
     let procedure = wire::word_at(s, PROCEDURE_AT);
-    // 0 MSG, 1 NOMSG, 2 MSGP, 3 DONE, 4 ERROR
-    match procedure {
-        0 => walk_lists(s, Kind::Msg),
-        1 => ended(walk_lists(s, Kind::Nomsg), size),
-        3 => FrameWalk::Refused(PROCEDURE_DONE),
-        4 => ended(walk_error(s), size),
-        _ => FrameWalk::Refused(OTHER_PROCEDURE),
+    if procedure == PROCEDURE_DONE {
+        return FrameWalk::Refused(DONE_REFUSED);
     }
+    if procedure == PROCEDURE_ERROR {
+        return ended(walk_error(s), size);
+    }
+    if PROCEDURE_NOMSG < procedure {
+        return FrameWalk::Refused(OTHER_PROCEDURE);
+    }
+    // The one place that walks the lists, for both kinds: the walk is then compiled in place.
+    let walk = walk_lists(s, lists_kind(procedure));
+    if procedure == PROCEDURE_MSG {
+        return walk;
+    }
+    ended(walk, size)
 }
 
 // A header whose lists are empty.

@@ -264,8 +264,8 @@ fn procedure_of(kind: Kind) -> u32
     ensures { λ r. ⌜ r ≡ procedureOf kind ⌝ }
 {
     match kind {
-        Kind::Msg => 0,
-        Kind::Nomsg => 1,
+        Kind::Msg => header::PROCEDURE_MSG,
+        Kind::Nomsg => header::PROCEDURE_NOMSG,
         Kind::Error(_) => header::PROCEDURE_ERROR,
     }
 }
