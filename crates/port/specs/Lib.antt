@@ -1,3 +1,4 @@
+pub mod Fill
 pub mod Flat
 pub mod FlatSetup
 pub mod FlatState

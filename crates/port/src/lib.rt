@@ -1,8 +1,10 @@
 // The library's calls for C and Rust: flat structs, kinds and flags as numbers, parts as offset and length.
 use assembly::State;
 use header::ErrorKind;
+use header::FrameWalk;
 use header::Header;
 use header::Kind;
+use header::Shape;
 use lists::ReadList;
 use lists::ReplyChunk;
 use lists::WriteList;
@@ -14,13 +16,20 @@ use wire::ReadSegment;
 use wire::Segment;
 use wire::WriteAnswer;
 ghost use mathlib.Core.Path.{_≡_};
+ghost use Prim.Native.Nat.{_*_, _≤_};
 ghost use lib.ListN.{length};
+ghost use Rattle.wire.specs.Wire.{segmentAt, stored};
+ghost use Rattle.lists.specs.Parsed.{each};
+ghost use Rattle.lists.specs.Steps.{markedSegmentAt, chunksAt, ChunksFit, withChunks};
+ghost use Rattle.header.specs.Content.{headerOf};
 ghost use Rattle.header.specs.Frame.{readFrame, readAnswer, payloadOf};
+ghost use Rattle.header.specs.Shape.{frameWalk, bareContent};
 ghost use Rattle.assembly.specs.Assembly.{startAnswer, startInto};
 ghost use Rattle.reply.specs.Reply.{grantAnswer, errorReplyAnswer, errorReplyInto};
 ghost use Rattle.setup.specs.Setup.{readSetup};
 ghost use Rattle.port.specs.FlatSetup.{flatSetupOf, flatSetupAnswer, setupOfFlat, flatSetupWritten, flatSetupInto, flatAgreementOf, flatAgreement};
 ghost use Rattle.port.specs.FlatState.{stateKind, flatStateOf, flatStarted, stateOfFlat, flatTaken, flatTakenInto, flatAsked, flatMessage};
+ghost use Rattle.port.specs.Fill.{withPlaces, writesOf};
 ghost use Rattle.port.specs.Flat.{kindNumber, lowOf, highOf, flagNumber, flatOf, flatAnswer, partOf, kindOf, headerOfFlat, flatWritten, flatInto};
 
 #[repr(C)]
@@ -107,32 +116,109 @@ fn flag_number(flag: bool) -> u32
     0
 }
 
-fn flat_of(h: Header) -> FlatHeader
-    ensures { λ r. ⌜ r ≡ flatOf h ⌝ }
+// A header whose lists are empty.
+fn bare_flat(kind: Kind, xid: u32, credit: u32, present: bool) -> FlatHeader
+    ensures { λ r. ⌜ r ≡ flatOf (headerOf (bareContent kind xid credit present)) ⌝ }
 {
-    let kind = h.kind;
-    let read_list = h.reads;
-    let write_list = h.writes;
-    let reply_chunk = h.reply;
-    let reads = read_list.segments;
-    let writes = write_list.segments;
-    let write_counts = write_list.counts;
-    let reply = reply_chunk.segments;
+    let z = Segment {
+        handle: 0,
+        length: 0,
+        offset: 0,
+    };
+    let r = ReadSegment {
+        position: 0,
+        target: z,
+    };
     FlatHeader {
-        reads,
-        writes,
-        reply,
-        write_counts,
-        read_count: read_list.count,
-        write_chunks: write_list.chunks,
-        reply_present: flag_number(reply_chunk.present),
-        reply_count: reply_chunk.count,
+        reads: [r; 16],
+        writes: [z; 16],
+        reply: [z; 16],
+        write_counts: [0u32; 4],
+        read_count: 0,
+        write_chunks: 0,
+        reply_present: flag_number(present),
+        reply_count: 0,
         kind: kind_number(kind),
         low: low_of(kind),
         high: high_of(kind),
-        xid: h.xid,
-        credit: h.credit,
+        xid,
+        credit,
     }
+}
+
+// Stores the n entries of a read list that was checked.
+fn with_reads(s: &[u8], n: usize, f: FlatHeader) -> FlatHeader
+    requires { ⌜ (n ≤ 16) × (n * 24 ≤ length (now s)) ⌝ }
+    ensures { λ r. ⌜ r ≡ withPlaces f (stored (f .reads) 0 (each 24 markedSegmentAt n (now (s .entry)))) (writesOf f) (f .reply) ⌝ }
+{
+    let mut h = f;
+    for k in 0..n {
+        h.reads[k] = wire::read_segment_at(s, k * lists::MARKED_ENTRY_BYTES + wire::WORD_BYTES);
+    }
+    h
+}
+
+// Stores the n chunks of a write list that was checked.
+fn with_writes(s: &[u8], n: usize, f: FlatHeader) -> FlatHeader
+    requires { ⌜ (n ≤ 4) × ChunksFit n 16 (now s) ⌝ }
+    ensures { λ r. ⌜ r ≡ withPlaces f (f .reads) (withChunks 0 0 (writesOf f) (chunksAt n (now (s .entry)))) (f .reply) ⌝ }
+{
+    let mut h = f;
+    let mut from = 0;
+    let mut used = 0;
+    for i in 0..n {
+        let count = wire::word_at(s, from + wire::WORD_BYTES);
+        let d = count as usize;
+        h.write_counts[i] = count;
+        for k in 0..d {
+            h.writes[used + k] = wire::segment_at(
+                s,
+                from + lists::CHUNK_HEAD_BYTES + k * wire::SEGMENT_BYTES,
+            );
+        }
+        from += lists::CHUNK_HEAD_BYTES + d * wire::SEGMENT_BYTES;
+        used += d;
+    }
+    h
+}
+
+// Stores the n segments of a reply chunk that was checked.
+fn with_reply(s: &[u8], n: usize, f: FlatHeader) -> FlatHeader
+    requires { ⌜ (n ≤ 16) × (n * 16 ≤ length (now s)) ⌝ }
+    ensures { λ r. ⌜ r ≡ withPlaces f (f .reads) (writesOf f) (stored (f .reply) 0 (each 16 (λ t. segmentAt t 0) n (now (s .entry)))) ⌝ }
+{
+    let mut h = f;
+    for k in 0..n {
+        h.reply[k] = wire::segment_at(s, k * wire::SEGMENT_BYTES);
+    }
+    h
+}
+
+// The header of a frame that was checked, each list stored where it lies.
+fn fill_flat(s: &[u8], shape: Shape) -> FlatHeader
+    requires { ⌜ frameWalk (length (now s)) (readFrame (now s)) ≡ FrameWalk.Found shape ⌝ }
+    ensures { λ r. ⌜ r ≡ flatOf (readAnswer (readFrame (now (s .entry))) .header) ⌝ }
+{
+    let kind = shape.kind;
+    let n = shape.reads;
+    let chunks = shape.chunks;
+    let m = shape.replies;
+    let mut h = bare_flat(
+        kind,
+        wire::word_at(s, header::XID_AT),
+        wire::word_at(s, header::CREDIT_AT),
+        shape.present,
+    );
+    h.read_count = n as u32;
+    h.write_chunks = chunks as u32;
+    h.reply_count = m as u32;
+    let w = header::EMPTY_READS_BYTES + n * lists::MARKED_ENTRY_BYTES;
+    let p = shape.end - m * wire::SEGMENT_BYTES;
+    with_reply(
+        &s[p..],
+        m,
+        with_writes(&s[w..], chunks, with_reads(&s[header::FIXED_BYTES..], n, h)),
+    )
 }
 
 // Reads the header of a frame.
@@ -140,11 +226,32 @@ fn flat_of(h: Header) -> FlatHeader
 pub extern "C" fn eos_read_header(frame: &[u8]) -> FlatAnswer
     ensures { λ r. ⌜ r ≡ flatAnswer (readAnswer (readFrame (now (frame .entry)))) ⌝ }
 {
-    let answer = header::read_header(frame);
-    let h = answer.header;
+    let walk = header::walk_frame(frame);
+    let FrameWalk::Found(shape) = walk else {
+        return FlatAnswer {
+            header: bare_flat(Kind::Msg, 0, 0, false),
+            number: header::frame_refusal(walk),
+        };
+    };
+    let n = shape.reads;
+    let chunks = shape.chunks;
+    let m = shape.replies;
+    let kind = shape.kind;
+    // Without entries there is nothing to fill: the short way for the commonest headers.
+    if n + chunks + m == 0 {
+        return FlatAnswer {
+            header: bare_flat(
+                kind,
+                wire::word_at(frame, header::XID_AT),
+                wire::word_at(frame, header::CREDIT_AT),
+                shape.present,
+            ),
+            number: 0,
+        };
+    }
     FlatAnswer {
-        header: flat_of(h),
-        number: answer.number,
+        header: fill_flat(frame, shape),
+        number: 0,
     }
 }
 

@@ -4,7 +4,7 @@ use denote.Ref.{now}
 use Rattle.header.proofs.Walks.{nothing-behind, frame-msg, frame-nomsg, frame-done, frame-error, frame-other}
 use Rattle.header.specs.Shape.{frameWalk}
 use Rattle.header.specs.Frame.{readFrame}
-use mathlib.Core.Path.{_≡_, _∙_}
+use mathlib.Core.Path.{_≡_}
 use borrow.Author.Tests.{le-leb, lt-leb, ne-eqb}
 use borrow.Author.Needs.{needs}
 use Rattle.header.proofs.walk_frame.Statement.{statement}
