@@ -1,29 +1,30 @@
 -- Laws about a flat header that is filled where it lies.
 -- Assumes nothing.
 use mathlib.Core.Path.{_≡_, refl, sym, ap, _∙_}
-use mathlib.Core.Bool.{Bool}
+use mathlib.Core.Bool.{Bool, false}
 use mathlib.Core.List.{List, []}
 use Prim.Native.Nat.{ℕ, _+_, _-_, _*_, _≤_, _<_}
-use lib.ListN.{length, take, drop, set, getD, replicate}
-use Rattle.wire.specs.Wire.{wordAt, segmentAt, stored, joined, zeroSegment}
+use lib.ListN.{length, take, drop, set, getD}
+use Rattle.wire.specs.Wire.{wordAt, segmentAt, stored, joined}
 use Rattle.wire.specs.declared.Segment.{Segment}
 use Rattle.wire.specs.declared.ReadSegment.{ReadSegment}
 use Rattle.wire.proofs.Laws.{part-from}
 use Rattle.lists.specs.Parsed.{refused, each}
-use Rattle.lists.specs.Steps.{markedSegmentAt, zeroReads, chunksAt, ChunksFit, withChunks}
+use Rattle.lists.specs.Steps.{markedSegmentAt, chunksAt, ChunksFit, withChunks}
 use Rattle.lists.specs.declared.WriteList.{WriteList}
 use Rattle.lists.specs.declared.ReplyChunk.{ReplyChunk}
 use Rattle.lists.proofs.Items.{fill-none, fill-next, fill-all}
 use Rattle.lists.proofs.Laws.{Filling, filling-starts, filling-fits, filling-next, filling-ends}
-use Rattle.header.specs.Content.{headerOf, readListOf, writeListOf, nothing}
+use Rattle.header.specs.Content.{headerOf, readListOf, writeListOf}
 use Rattle.header.specs.Frame.{readFrame, readAnswer}
 use Rattle.header.specs.Shape.{bareContent}
 use Rattle.header.specs.declared.Kind.{Kind}
+use Rattle.header.specs.declared.Kind.the-variants.{Msg}
 use Rattle.header.specs.declared.ReadAnswer.{ReadAnswer}
 use Rattle.header.specs.declared.Shape.{Shape}
 use Rattle.header.proofs.Lies.{Found, empty-reply, built, bare-read, answer-is}
-use Rattle.port.specs.Flat.{kindNumber, lowOf, highOf, flagNumber, flatOf, flatAnswer}
-use Rattle.port.specs.Fill.{writesOf, withPlaces}
+use Rattle.port.specs.Flat.{flatOf, flatAnswer}
+use Rattle.port.specs.Fill.{emptyHeader, writesOf, withPlaces}
 use Rattle.port.specs.declared.FlatHeader.{FlatHeader}
 
 -- A flat header with one of its three lists of segments put anew.
@@ -101,69 +102,34 @@ module _ {s : List ℕ} {n : ℕ} {f h : FlatHeader} {from used i : ℕ} (so-far
       so-far .keeps
       ∙ ap (λ (w : WriteList). withPlaces f (f .reads) w (f .reply)) (filling-ends s n (writesOf f) (writesOf h) from used i (so-far .filling) all)
 
--- A flat header with the counts of its lists put anew.
-abbrev putCounts : FlatHeader → ℕ → ℕ → ℕ → FlatHeader
-putCounts f n chunks m = record {
-  reads = f .reads;
-  writes = f .writes;
-  reply = f .reply;
-  «write_counts» = f .«write_counts»;
-  «read_count» = n;
-  «write_chunks» = chunks;
-  «reply_present» = f .«reply_present»;
-  «reply_count» = m;
-  kind = f .kind;
-  low = f .low;
-  high = f .high;
-  xid = f .xid;
-  credit = f .credit;
-}
-
--- A flat header of empty lists, field by field.
-abbrev bareFlat : Kind → ℕ → ℕ → Bool → FlatHeader
-bareFlat kind xid credit present = record {
-  reads = zeroReads;
-  writes = replicate 16 zeroSegment;
-  reply = replicate 16 zeroSegment;
-  «write_counts» = replicate 4 0;
-  «read_count» = 0;
-  «write_chunks» = 0;
-  «reply_present» = flagNumber present;
-  «reply_count» = 0;
-  kind = kindNumber kind;
-  low = lowOf kind;
-  high = highOf kind;
-  xid = xid;
-  credit = credit;
-}
-
-pub bare-is : (kind : Kind) (xid credit : ℕ) (present : Bool) → bareFlat kind xid credit present ≡ flatOf (headerOf (bareContent kind xid credit present))
-unfolding flatOf headerOf joined
+-- An empty header without entries is a bare one.
+bare-is : (kind : Kind) (xid credit : ℕ) (present : Bool) → emptyHeader kind xid credit present 0 0 0 ≡ headerOf (bareContent kind xid credit present)
+unfolding headerOf joined
 bare-is kind xid credit present =
-    ap (λ (r : ReplyChunk). flatOf (record { reads = readListOf []; writes = writeListOf []; reply = r; kind = kind; xid = xid; credit = credit })) (empty-reply present)
+    ap (λ (r : ReplyChunk). record { reads = readListOf []; writes = writeListOf []; reply = r; kind = kind; xid = xid; credit = credit }) (empty-reply present)
 
--- A bare header whose counts were put, and then its lists, is the header that was read.
-pub filled-is : (s : List ℕ) (shape : Shape) → Found s shape → (x y : ℕ) (e a b r : FlatHeader) →
-    x ≡ wordAt s 0 → y ≡ wordAt s 8 → e ≡ flatOf (headerOf (bareContent (shape .kind) x y (shape .present))) →
-    a ≡ putReads (putCounts e (shape .reads) (shape .chunks) (shape .replies)) (stored (e .reads) 0 (each 24 markedSegmentAt (shape .reads) (take (length s - 16) (drop 16 s)))) →
+-- An empty header with its counts whose lists were then put is the header that was read.
+pub filled-is : (s : List ℕ) (shape : Shape) → Found s shape → (x y : ℕ) (e a b r : FlatHeader) → x ≡ wordAt s 0 → y ≡ wordAt s 8 →
+    e ≡ flatOf (emptyHeader (shape .kind) x y (shape .present) (shape .reads) (shape .chunks) (shape .replies)) →
+    a ≡ putReads e (stored (e .reads) 0 (each 24 markedSegmentAt (shape .reads) (take (length s - 16) (drop 16 s)))) →
     b ≡ withPlaces a (a .reads) (withChunks 0 0 (writesOf a) (chunksAt (shape .chunks) (take (length s - (20 + shape .reads * 24)) (drop (20 + shape .reads * 24) s)))) (a .reply) →
     r ≡ putReply b (stored (b .reply) 0 (each 16 (λ t. segmentAt t 0) (shape .replies) (take (length s - (shape .end - shape .replies * 16)) (drop (shape .end - shape .replies * 16) s)))) →
     r ≡ flatOf (readAnswer (readFrame s) .header)
 unfolding flatOf withChunks
-filled-is s shape f x y e a b r xid credit bare p q t =
-    let empty : e ≡ bareFlat (shape .kind) (wordAt s 0) (wordAt s 8) (shape .present) = bare ∙ rw (xid, credit) (sym (bare-is (shape .kind) (wordAt s 0) (wordAt s 8) (shape .present))) in
-    t ∙ rw (q, p, empty, part-from 16 s, part-from (20 + shape .reads * 24) s, part-from (shape .end - shape .replies * 16) s) (ap flatOf (built s shape f))
+filled-is s shape f x y e a b r xid credit empty p q t =
+    t ∙ rw (q, p, empty, xid, credit, part-from 16 s, part-from (20 + shape .reads * 24) s, part-from (shape .end - shape .replies * 16) s) (ap flatOf (built s shape f))
 
 -- What is answered for a frame that was refused, and for one that was read.
-pub refused-answer : (s : List ℕ) (n k : ℕ) (h : FlatHeader) → readFrame s ≡ refused n → h ≡ flatOf (headerOf nothing) → k ≡ n → record { header = h; number = k } ≡ flatAnswer (readAnswer (readFrame s))
+pub refused-answer : (s : List ℕ) (n k : ℕ) (h : FlatHeader) → readFrame s ≡ refused n → h ≡ flatOf (emptyHeader Msg 0 0 false 0 0 0) → k ≡ n → record { header = h; number = k } ≡ flatAnswer (readAnswer (readFrame s))
 unfolding flatAnswer
-refused-answer s n k h e is same = rw (e, is, same)
+refused-answer s n k h e is same = rw (e, is, same, bare-is Msg 0 0 false)
 
 pub read-answer : (s : List ℕ) (shape : Shape) → Found s shape → (h : FlatHeader) → h ≡ flatOf (readAnswer (readFrame s) .header) → record { header = h; number = 0 } ≡ flatAnswer (readAnswer (readFrame s))
 unfolding flatAnswer
 read-answer s shape f h is = rw is (ap flatAnswer (answer-is s shape f (readAnswer (readFrame s) .header) refl))
 
--- A frame without entries is read as a bare header.
-pub bare-flat-read : (s : List ℕ) (shape : Shape) → Found s shape → shape .reads + shape .chunks + shape .replies ≡ 0 → (x y : ℕ) → x ≡ wordAt s 0 → y ≡ wordAt s 8 →
-    flatOf (headerOf (bareContent (shape .kind) x y (shape .present))) ≡ flatOf (readAnswer (readFrame s) .header)
-bare-flat-read s shape f e x y xid credit = rw (xid, credit) (ap (λ (a : ReadAnswer). flatOf (a .header)) (sym (bare-read s shape f e)))
+-- A frame without entries is read as an empty header.
+pub empty-read : (s : List ℕ) (shape : Shape) → Found s shape → shape .reads + shape .chunks + shape .replies ≡ 0 → (x y : ℕ) → x ≡ wordAt s 0 → y ≡ wordAt s 8 →
+    flatOf (emptyHeader (shape .kind) x y (shape .present) 0 0 0) ≡ flatOf (readAnswer (readFrame s) .header)
+empty-read s shape f e x y xid credit =
+    ap flatOf (rw (xid, credit) (bare-is (shape .kind) (wordAt s 0) (wordAt s 8) (shape .present)) ∙ ap (λ (a : ReadAnswer). a .header) (sym (bare-read s shape f e)))

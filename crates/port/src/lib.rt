@@ -21,15 +21,14 @@ ghost use lib.ListN.{length};
 ghost use Rattle.wire.specs.Wire.{segmentAt, stored};
 ghost use Rattle.lists.specs.Parsed.{each};
 ghost use Rattle.lists.specs.Steps.{markedSegmentAt, chunksAt, ChunksFit, withChunks};
-ghost use Rattle.header.specs.Content.{headerOf};
 ghost use Rattle.header.specs.Frame.{readFrame, readAnswer, payloadOf};
-ghost use Rattle.header.specs.Shape.{frameWalk, bareContent};
+ghost use Rattle.header.specs.Shape.{frameWalk};
 ghost use Rattle.assembly.specs.Assembly.{startAnswer, startInto};
 ghost use Rattle.reply.specs.Reply.{grantAnswer, errorReplyAnswer, errorReplyInto};
 ghost use Rattle.setup.specs.Setup.{readSetup};
 ghost use Rattle.port.specs.FlatSetup.{flatSetupOf, flatSetupAnswer, setupOfFlat, flatSetupWritten, flatSetupInto, flatAgreementOf, flatAgreement};
 ghost use Rattle.port.specs.FlatState.{stateKind, flatStateOf, flatStarted, stateOfFlat, flatTaken, flatTakenInto, flatAsked, flatMessage};
-ghost use Rattle.port.specs.Fill.{withPlaces, writesOf};
+ghost use Rattle.port.specs.Fill.{emptyHeader, withPlaces, writesOf};
 ghost use Rattle.port.specs.Flat.{kindNumber, lowOf, highOf, flagNumber, flatOf, flatAnswer, partOf, kindOf, headerOfFlat, flatWritten, flatInto};
 
 #[repr(C)]
@@ -116,9 +115,17 @@ fn flag_number(flag: bool) -> u32
     0
 }
 
-// A header whose lists are empty.
-fn bare_flat(kind: Kind, xid: u32, credit: u32, present: bool) -> FlatHeader
-    ensures { λ r. ⌜ r ≡ flatOf (headerOf (bareContent kind xid credit present)) ⌝ }
+// A header whose places are empty, with its counts.
+fn empty_flat(
+    kind: Kind,
+    xid: u32,
+    credit: u32,
+    present: bool,
+    reads: u32,
+    chunks: u32,
+    replies: u32,
+) -> FlatHeader
+    ensures { λ r. ⌜ r ≡ flatOf (emptyHeader kind xid credit present reads chunks replies) ⌝ }
 {
     let z = Segment {
         handle: 0,
@@ -134,10 +141,10 @@ fn bare_flat(kind: Kind, xid: u32, credit: u32, present: bool) -> FlatHeader
         writes: [z; 16],
         reply: [z; 16],
         write_counts: [0u32; 4],
-        read_count: 0,
-        write_chunks: 0,
+        read_count: reads,
+        write_chunks: chunks,
         reply_present: flag_number(present),
-        reply_count: 0,
+        reply_count: replies,
         kind: kind_number(kind),
         low: low_of(kind),
         high: high_of(kind),
@@ -203,21 +210,25 @@ fn fill_flat(s: &[u8], shape: Shape) -> FlatHeader
     let n = shape.reads;
     let chunks = shape.chunks;
     let m = shape.replies;
-    let mut h = bare_flat(
+    let w = header::EMPTY_READS_BYTES + n * lists::MARKED_ENTRY_BYTES;
+    let p = shape.end - m * wire::SEGMENT_BYTES;
+    let empty = empty_flat(
         kind,
         wire::word_at(s, header::XID_AT),
         wire::word_at(s, header::CREDIT_AT),
         shape.present,
+        n as u32,
+        chunks as u32,
+        m as u32,
     );
-    h.read_count = n as u32;
-    h.write_chunks = chunks as u32;
-    h.reply_count = m as u32;
-    let w = header::EMPTY_READS_BYTES + n * lists::MARKED_ENTRY_BYTES;
-    let p = shape.end - m * wire::SEGMENT_BYTES;
     with_reply(
         &s[p..],
         m,
-        with_writes(&s[w..], chunks, with_reads(&s[header::FIXED_BYTES..], n, h)),
+        with_writes(
+            &s[w..],
+            chunks,
+            with_reads(&s[header::FIXED_BYTES..], n, empty),
+        ),
     )
 }
 
@@ -229,7 +240,7 @@ pub extern "C" fn eos_read_header(frame: &[u8]) -> FlatAnswer
     let walk = header::walk_frame(frame);
     let FrameWalk::Found(shape) = walk else {
         return FlatAnswer {
-            header: bare_flat(Kind::Msg, 0, 0, false),
+            header: empty_flat(Kind::Msg, 0, 0, false, 0, 0, 0),
             number: header::frame_refusal(walk),
         };
     };
@@ -240,11 +251,14 @@ pub extern "C" fn eos_read_header(frame: &[u8]) -> FlatAnswer
     // Without entries there is nothing to fill: the short way for the commonest headers.
     if n + chunks + m == 0 {
         return FlatAnswer {
-            header: bare_flat(
+            header: empty_flat(
                 kind,
                 wire::word_at(frame, header::XID_AT),
                 wire::word_at(frame, header::CREDIT_AT),
                 shape.present,
+                0,
+                0,
+                0,
             ),
             number: 0,
         };

@@ -17,35 +17,35 @@ found-at c = found _ _ (c .pre)
 bounds-at : (c : tie.Start) → Bounds (now (c .args .s)) (c .args .shape)
 bounds-at c = bounds _ _ (found-at c)
 
-word-at-requires : tie.Need-word-at-requires
-word-at-requires c κs = let b = bounds-at (c .before) in omega arith
-
-word-at-requires-2 : tie.Need-word-at-requires-2
-word-at-requires-2 c κs = let b = bounds-at (c .before .before) in omega arith
-
-bare-flat-requires : tie.Need-bare-flat-requires
-bare-flat-requires c κs = search needs
-
-cast-h : tie.Need-cast-h
-cast-h c = let b = bounds-at (c .before .before .before .before) in omega arith
-
-cast-h-2 : tie.Need-cast-h-2
-cast-h-2 c = let b = bounds-at (c .before .before .before .before) in omega arith
-
-cast-h-3 : tie.Need-cast-h-3
-cast-h-3 c = let b = bounds-at (c .before .before .before .before) in omega arith
-
 mul-w : tie.Need-mul-w
-mul-w c = let b = bounds-at (c .before .before .before .before) in omega arith
+mul-w c = let b = bounds-at (c .before) in omega arith
 
 add-w : tie.Need-add-w
-add-w c = let b = bounds-at (c .before .before .before .before) in omega arith
+add-w c = let b = bounds-at (c .before) in omega arith
 
 mul-p : tie.Need-mul-p
-mul-p c = let b = bounds-at (c .before .before .before .before) in omega arith
+mul-p c = let b = bounds-at (c .before) in omega arith
 
 sub-p : tie.Need-sub-p
-sub-p c = let b = bounds-at (c .before .before .before .before .before) in omega arith
+sub-p c = let b = bounds-at (c .before .before) in omega arith
+
+word-at-requires : tie.Need-word-at-requires
+word-at-requires c κs = let b = bounds-at (c .before .before) in omega arith
+
+word-at-requires-2 : tie.Need-word-at-requires-2
+word-at-requires-2 c κs = let b = bounds-at (c .before .before .before) in omega arith
+
+cast-empty-flat : tie.Need-cast-empty-flat
+cast-empty-flat c = let b = bounds-at (c .before .before .before .before) in omega arith
+
+cast-empty-flat-2 : tie.Need-cast-empty-flat-2
+cast-empty-flat-2 c = let b = bounds-at (c .before .before .before .before) in omega arith
+
+cast-empty-flat-3 : tie.Need-cast-empty-flat-3
+cast-empty-flat-3 c = let b = bounds-at (c .before .before .before .before) in omega arith
+
+empty-flat-requires : tie.Need-empty-flat-requires
+empty-flat-requires c κs = search needs
 
 sub-with-reply : tie.Need-sub-with-reply
 sub-with-reply c = let b = bounds-at (c .before .before .before .before .before) in omega arith
@@ -84,22 +84,22 @@ with-reply-requires : tie.Need-with-reply-requires
 with-reply-requires c κs = let b = bounds-at (c .before .before .before .before .before .before .before .before .before .before) in (b .replies-few, rw part-from (omega (arith, length-drop (c .before .before .before .before .before .before .before .before .before .before .args .shape .end - c .before .before .before .before .before .before .before .before .before .before .args .shape .replies * 16) (now (c .before .before .before .before .before .before .before .before .before .before .args .s)))))
 
 returns : tie.Need-returns
-returns c = filled-is (now (c .before .before .before .before .before .before .before .before .before .before .before .args .s)) (c .before .before .before .before .before .before .before .before .before .before .before .args .shape) (found-at (c .before .before .before .before .before .before .before .before .before .before .before)) (c .before .before .before .before .before .before .before .before .before .word-at .result) (c .before .before .before .before .before .before .before .before .word-at2 .result) (c .before .before .before .before .before .before .before .bare-flat .result) (c .before .before .with-reads .result) (c .before .with-writes .result) (c .with-reply .result) (c .before .before .before .before .before .before .before .before .before .word-at .ensures) (c .before .before .before .before .before .before .before .before .word-at2 .ensures) (c .before .before .before .before .before .before .before .bare-flat .ensures) (c .before .before .with-reads .ensures) (c .before .with-writes .ensures) (c .with-reply .ensures)
+returns c = filled-is (now (c .before .before .before .before .before .before .before .before .before .before .before .args .s)) (c .before .before .before .before .before .before .before .before .before .before .before .args .shape) (found-at (c .before .before .before .before .before .before .before .before .before .before .before)) (c .before .before .before .before .before .before .before .before .word-at .result) (c .before .before .before .before .before .before .before .word-at2 .result) (c .before .before .before .before .before .before .empty-flat .result) (c .before .before .with-reads .result) (c .before .with-writes .result) (c .with-reply .result) (c .before .before .before .before .before .before .before .before .word-at .ensures) (c .before .before .before .before .before .before .before .word-at2 .ensures) (c .before .before .before .before .before .before .empty-flat .ensures) (c .before .before .with-reads .ensures) (c .before .with-writes .ensures) (c .with-reply .ensures)
 
 pub fill-flat-spec : {M : Type 1} → statement M
 fill-flat-spec =
     tie.close
     (tie.spec
-    word-at-requires
-    word-at-requires-2
-    bare-flat-requires
-    cast-h
-    cast-h-2
-    cast-h-3
     mul-w
     add-w
     mul-p
     sub-p
+    word-at-requires
+    word-at-requires-2
+    cast-empty-flat
+    cast-empty-flat-2
+    cast-empty-flat-3
+    empty-flat-requires
     sub-with-reply
     part-with-reply-start
     part-with-reply-end
