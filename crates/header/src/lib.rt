@@ -132,7 +132,7 @@ fn walk_lists(s: &[u8], kind: Kind) -> FrameWalk
         return FrameWalk::Refused(list_refusal(reads));
     };
     let w = s.len() - behind_reads;
-    let writes = lists::walk_writes(&s[w..], lists::WRITE_CHUNKS, lists::WRITE_SEGMENTS);
+    let writes = lists::walk_writes(&s[w..]);
     let ListWalk::Done(chunks, behind_writes) = writes else {
         return FrameWalk::Refused(list_refusal(writes));
     };

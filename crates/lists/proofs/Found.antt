@@ -3,9 +3,9 @@
 use mathlib.Core.Path.{_≡_, refl, sym, ap, subst, _∙_}
 use mathlib.Core.List.{List, [], _∷_}
 use mathlib.Core.Option.{none, some}
-use Prim.Native.Nat.{ℕ, zero, suc, _+_, _-_, _*_, _≤_, _<_}
+use Prim.Native.Nat.{ℕ, zero, suc, _+_, _-_, _*_, _/_, _%_, _≤_, _<_}
 use native.Mathlib.Omega.{arith}
-use native.Mathlib.Nat.{suc-mul}
+use native.Mathlib.Nat.{suc-mul, div-add-mod', mod-lt}
 use lib.ListN.{length, drop, length-drop, length-append}
 use lib.Seq.{drop-drop}
 use borrow.Author.Tests.{eq-eqb, le-leb}
@@ -18,7 +18,7 @@ use Rattle.lists.specs.Steps.{chunkStep, listWalk, packedWalk, markedSeg
 use Rattle.lists.specs.declared.Marker.the-variants as marker
 use Rattle.lists.specs.declared.ChunkStep.the-variants as chunk
 use Rattle.lists.specs.declared.ListWalk.the-variants as walk
-use Rattle.lists.proofs.Laws.{never, end-room, ReadFront, ends, faulty, goes, read-front, ChunkFront, chunk-front, unmarked, full, uncounted, Chunk, chunk-of, writes-end, writes-unmarked, writes-full, writes-uncounted, writes-chunk}
+use Rattle.lists.proofs.Laws.{never, end-room, ReadFront, ends, faulty, goes, read-front, ChunkFront, chunk-front, unmarked, full, uncounted, Chunk, chunk-of, writes-end, writes-unmarked, writes-full, writes-uncounted, writes-chunk, marker-number, count-number}
 use Rattle.lists.proofs.Laws as laws
 
 -- A list that has one more entry in front.
@@ -115,6 +115,11 @@ reads-rise (suc room) last s l t e = go (read-front (suc room) last s) (reads-ri
         let m = longer x (readList room (x .position) (drop 24 s)) l t q in
         rw (m .is, eq-eqb _ _ aligned, le-leb _ _ rises) (again (x .position) (drop 24 s) (m .rest) t (m .read))
 
+-- A fault behind an entry.
+prepend-refused : {A : Type 0} (x : A) (p : Parsed (List A)) (n : ℕ) → prepend x p ≡ refused n → p ≡ refused n
+prepend-refused x (refused m) n q = q
+prepend-refused x (done l t) n q = absurd (never (sym q))
+
 -- No fault of a read list has a number above 9.
 pub read-number : (room last : ℕ) (s : List ℕ) (n : ℕ) → readList room last s ≡ refused n → n ≤ 9
 read-number zero last s n e = go (read-front zero last s)
@@ -125,43 +130,57 @@ read-number zero last s n e = go (read-front zero last s)
     go (laws.ReadFront.goes x f h long at4 is aligned rises) = absurd (omega arith)
 read-number (suc room) last s n e = go (read-front (suc room) last s) (read-number room)
   where
-    behind : (x : ReadSegment) (p : Parsed (List ReadSegment)) → prepend x p ≡ refused n → p ≡ refused n
-    behind x (refused m) q = q
-    behind x (done l t) q = absurd (never (sym q))
-
     go : ReadFront (suc room) last s → ((last : ℕ) (s : List ℕ) (n : ℕ) → readList room last s ≡ refused n → n ≤ 9) → n ≤ 9
     go (ends f h is) again = absurd (never (sym e ∙ is))
     go (faulty m f small is) again = let same : refused m ≡ refused n = sym is ∙ e in let equal : m ≡ n = cc in omega arith
     go (laws.ReadFront.goes x f h long at4 is aligned rises) again =
         let r : suc room - 1 ≡ room = omega arith in
         let q : prepend x (readList room (x .position) (drop 24 s)) ≡ refused n = rw (← r) (sym is ∙ e) in
-        again (x .position) (drop 24 s) n (behind x (readList room (x .position) (drop 24 s)) q)
+        again (x .position) (drop 24 s) n (prepend-refused x (readList room (x .position) (drop 24 s)) n q)
+
+-- A list by the answer as one number, where no list has an answer from 256 on and no fault a number above 9.
+pub record Packed {A : Type 0} (f : List A → ℕ) (p : Parsed (List A)) (r : ℕ) : Type 0 where
+  pub list : List A
+  pub behind : List ℕ
+  pub read : p ≡ done list behind
+  pub answer : r ≡ f list
+
+module _ {A : Type 0} (f : List A → ℕ) (p : Parsed (List A)) (r : ℕ) (e : r ≡ packedWalk f p) where
+  packed-refused : ((n : ℕ) → p ≡ refused n → n ≤ 9) → ((l : List A) (t : List ℕ) → p ≡ done l t → f l < 256) → 256 ≤ r →
+      (r ≤ 265) × (walk.Refused (r - 256) ≡ listWalk 0 p)
+  unfolding packedWalk listWalk
+  packed-refused numbers answers h = go p refl e
+    where
+      go : (q : Parsed (List A)) → p ≡ q → r ≡ packedWalk f q → (r ≤ 265) × (walk.Refused (r - 256) ≡ listWalk 0 p)
+      go (refused n) is same =
+          let small = numbers n is in
+          let number : r - 256 ≡ n = omega arith in
+          (omega arith, rw (is, number))
+      go (done l t) is same = absurd (omega (arith, answers l t is))
+
+  packed-done : r < 256 → Packed f p r
+  unfolding packedWalk
+  packed-done h = go p refl e
+    where
+      go : (q : Parsed (List A)) → p ≡ q → r ≡ packedWalk f q → Packed f p r
+      go (refused n) is same = absurd (omega arith)
+      go (done l t) is same = record { list = l; behind = t; read = is; answer = same }
 
 -- The read list at the front of s, by the answer as one number.
-module _ (s : List ℕ) (r : ℕ) (e : r ≡ packedWalk 0 (readList 16 0 s)) where
-  pub packed-refused : 256 ≤ r → (r ≤ 265) × (walk.Refused (r - 256) ≡ listWalk 0 (readList 16 0 s))
-  unfolding packedWalk listWalk
-  packed-refused h = go (readList 16 0 s) refl e
-    where
-      go : (p : Parsed (List ReadSegment)) → readList 16 0 s ≡ p → r ≡ packedWalk 0 p → (r ≤ 265) × (walk.Refused (r - 256) ≡ listWalk 0 (readList 16 0 s))
-      go (refused n) q f =
-          let small = read-number 16 0 s n q in
-          let number : r - 256 ≡ n = omega arith in
-          (omega arith, rw (q, number))
-      go (done l t) q f = absurd (omega (arith, reads-of 16 0 s l t q .few))
+module _ (s : List ℕ) (r : ℕ) (e : r ≡ packedWalk (λ l. 16 - 16 + length l) (readList 16 0 s)) where
+  pub entries-refused : 256 ≤ r → (r ≤ 265) × (walk.Refused (r - 256) ≡ listWalk 0 (readList 16 0 s))
+  entries-refused = packed-refused _ (readList 16 0 s) r e (read-number 16 0 s) (λ l t q. omega (arith, reads-of 16 0 s l t q .few))
 
-  pub packed-done : r < 256 → (4 + r * 24 ≤ length s) × (walk.Done r (length s - 4 - r * 24) ≡ listWalk 0 (readList 16 0 s))
-  unfolding packedWalk listWalk
-  packed-done h = go (readList 16 0 s) refl e
-    where
-      go : (p : Parsed (List ReadSegment)) → readList 16 0 s ≡ p → r ≡ packedWalk 0 p → (4 + r * 24 ≤ length s) × (walk.Done r (length s - 4 - r * 24) ≡ listWalk 0 (readList 16 0 s))
-      go (refused n) q f = absurd (omega arith)
-      go (done l t) q f =
-          let a = reads-of 16 0 s l t q in
-          let many : r ≡ length l = omega arith in
-          let size : length t ≡ length s - (4 + length l * 24) = ap length (a .behind) ∙ length-drop (4 + length l * 24) s in
-          let left : length s - 4 - r * 24 ≡ length t = omega arith in
-          (omega (arith, a .long), rw (q, left) (ap (λ (k : ℕ). walk.Done k (length t)) f))
+  pub entries-done : r < 256 → (4 + r * 24 ≤ length s) × (walk.Done r (length s - 4 - r * 24) ≡ listWalk 0 (readList 16 0 s))
+  unfolding listWalk
+  entries-done h =
+      let k = packed-done _ (readList 16 0 s) r e h in
+      let a = reads-of 16 0 s (k .list) (k .behind) (k .read) in
+      let many : r ≡ length (k .list) = omega (arith, k .answer) in
+      let size : length (k .behind) ≡ length s - (4 + length (k .list) * 24) = ap length (a .behind) ∙ length-drop (4 + length (k .list) * 24) s in
+      let left : length s - 4 - r * 24 ≡ length (k .behind) = omega arith in
+      let same : r ≡ 0 + length (k .list) = omega arith in
+      (omega (arith, a .long), rw (k .read, left) (ap (λ (n : ℕ). walk.Done n (length (k .behind))) same))
 
 -- A write list that was read.
 pub record WritesAre (room left : ℕ) (s : List ℕ) (cs : List (List Segment)) (t : List ℕ) : Type 0 where
@@ -170,6 +189,7 @@ pub record WritesAre (room left : ℕ) (s : List ℕ) (cs : List (List Segment))
   pub fits : ChunksFit (length cs) left s
   pub is : cs ≡ chunksAt (length cs) s
   pub short : length t ≤ length s
+  pub sized : length t + (4 + length cs * 8 + length (joined (λ c. c) cs) * 16) ≡ length s
   pub behind : t ≡ drop (length s - length t) s
 
 writes-none : (room left : ℕ) (s : List ℕ) (cs : List (List Segment)) (t : List ℕ) → 4 ≤ length s → done [] (drop 4 s) ≡ done cs t → WritesAre room left s cs t
@@ -178,7 +198,7 @@ writes-none room left s cs t h e =
     let none-read : cs ≡ [] = cc in
     let rest : t ≡ drop 4 s = cc in
     let four : length s - length (drop 4 s) ≡ 4 = omega (arith, length-drop 4 s) in
-    rw (none-read, rest) (record { few = omega arith; within = omega arith; fits = tt; is = refl; short = omega (arith, length-drop 4 s); behind = rw four })
+    rw (none-read, rest) (record { few = omega arith; within = omega arith; fits = tt; is = refl; short = omega (arith, length-drop 4 s); sized = omega (arith, length-drop 4 s); behind = rw four })
 
 writes-more : (room left : ℕ) (s : List ℕ) (c : List Segment) (u : List ℕ) (cs : List (List Segment)) (t : List ℕ) → Chunk left s c u → WritesAre room (left - length c) u cs t → WritesAre (suc room) left s (c ∷ cs) t
 unfolding chunksAt ChunksFit joined
@@ -198,6 +218,7 @@ writes-more room left s c u cs t k r =
       fits = (subst (λ (n : ℕ). 8 + n * 16 ≤ length s) (k .many) long, subst (λ (n : ℕ). n ≤ left) (k .many) few, fits);
       is = ap (λ (x : List Segment). x ∷ cs) item ∙ ap (λ (l : List (List Segment)). each 16 (λ v. segmentAt v 0) (wordAt s 4) (drop 8 s) ∷ l) is;
       short = omega arith;
+      sized = omega (arith, r .sized, length-append c (joined (λ d. d) cs));
       behind = r .behind ∙ ap (drop (length u - length t)) (k .behind) ∙ drop-drop (length u - length t) (8 + length c * 16) s ∙ ap (λ (n : ℕ). drop n s) skip;
     }
 
@@ -222,6 +243,46 @@ writes-of (suc room) left s cs t e = go (chunk-front (suc room) left s) (writes-
         let p : prepend c (writeList room (left - length c) u) ≡ done cs t = rw (← r) (sym (writes-chunk left s (suc room) c u h m q) ∙ e) in
         let x = longer c (writeList room (left - length c) u) cs t p in
         rw (x .is) (writes-more room left s c u (x .rest) t (chunk-of left s c u m q) (again (left - length c) u (x .rest) t (x .read)))
+
+-- No fault of a write list has a number above 9.
+write-number : (room left : ℕ) (s : List ℕ) (n : ℕ) → writeList room left s ≡ refused n → n ≤ 9
+write-number zero left s n e = go (chunk-front zero left s)
+  where
+    go : ChunkFront zero left s → n ≤ 9
+    go (laws.ChunkFront.ends f m) = absurd (never (sym e ∙ writes-end left s zero m))
+    go (unmarked k f m) = let same : refused k ≡ refused n = sym (writes-unmarked left s zero k m) ∙ e in let equal : k ≡ n = cc in omega (arith, marker-number s k m)
+    go (full f m h) = let same : refused 7 ≡ refused n = sym (writes-full left s zero h m) ∙ e in let equal : 7 ≡ n = cc in omega arith
+    go (uncounted k f m h q) = absurd (omega arith)
+    go (laws.ChunkFront.goes c u f m h q) = absurd (omega arith)
+write-number (suc room) left s n e = go (chunk-front (suc room) left s) (write-number room)
+  where
+    go : ChunkFront (suc room) left s → ((left : ℕ) (s : List ℕ) (n : ℕ) → writeList room left s ≡ refused n → n ≤ 9) → n ≤ 9
+    go (laws.ChunkFront.ends f m) again = absurd (never (sym e ∙ writes-end left s (suc room) m))
+    go (unmarked k f m) again = let same : refused k ≡ refused n = sym (writes-unmarked left s (suc room) k m) ∙ e in let equal : k ≡ n = cc in omega (arith, marker-number s k m)
+    go (full f m h) again = absurd (omega arith)
+    go (uncounted k f m h q) again = let same : refused k ≡ refused n = sym (writes-uncounted left s (suc room) k h m q) ∙ e in let equal : k ≡ n = cc in omega (arith, count-number left (drop 4 s) k q)
+    go (laws.ChunkFront.goes c u f m h q) again =
+        let r : suc room - 1 ≡ room = omega arith in
+        let p : prepend c (writeList room (left - length c) u) ≡ refused n = rw (← r) (sym (writes-chunk left s (suc room) c u h m q) ∙ e) in
+        again (left - length c) u n (prepend-refused c (writeList room (left - length c) u) n p)
+
+-- The write list at the front of s, by the answer as one number.
+module _ (s : List ℕ) (r : ℕ) (e : r ≡ packedWalk (λ cs. (4 - 4 + length cs) * 32 + (16 - 16 + length (joined (λ c. c) cs))) (writeList 4 16 s)) where
+  pub chunks-refused : 256 ≤ r → (r ≤ 265) × (walk.Refused (r - 256) ≡ listWalk 0 (writeList 4 16 s))
+  chunks-refused = packed-refused _ (writeList 4 16 s) r e (write-number 4 16 s) (λ cs t q. let a = writes-of 4 16 s cs t q in omega (arith, a .few, a .within))
+
+  pub chunks-done : r < 256 → (4 + r / 32 * 8 + r % 32 * 16 ≤ length s) × (walk.Done (r / 32) (length s - 4 - r / 32 * 8 - r % 32 * 16) ≡ listWalk 0 (writeList 4 16 s))
+  unfolding listWalk
+  chunks-done h =
+      let k = packed-done _ (writeList 4 16 s) r e h in
+      let a = writes-of 4 16 s (k .list) (k .behind) (k .read) in
+      let cut : r / 32 * 32 + r % 32 ≡ r = div-add-mod' r 32 in
+      let below : r % 32 < 32 = mod-lt r (omega arith) in
+      let chunks : r / 32 ≡ length (k .list) = omega (arith, k .answer, a .within) in
+      let segments : r % 32 ≡ length (joined (λ c. c) (k .list)) = omega (arith, k .answer) in
+      let left : length s - 4 - r / 32 * 8 - r % 32 * 16 ≡ length (k .behind) = omega (arith, a .sized) in
+      let same : r / 32 ≡ 0 + length (k .list) = omega arith in
+      (omega (arith, a .sized), rw (k .read, left) (ap (λ (n : ℕ). walk.Done n (length (k .behind))) same))
 
 -- The reply chunk behind a marker 1.
 pub reply-chunk : (s : List ℕ) (c : List Segment) (u : List ℕ) → markerOf s ≡ marker.Entry → counted 16 (drop 4 s) ≡ done c u → replyChunk s ≡ done (some c) u

@@ -4,7 +4,6 @@ use mathlib.Core.Path.{_≡_, refl, sym, ap, subst, _∙_}
 use mathlib.Core.Bool.{Bool, true, false, cond}
 use mathlib.Core.List.{List, [], _∷_, map}
 use Prim.Native.Nat.{ℕ, zero, suc, _+_, _-_, _*_, _%_, _≤_, _<_}
-use native.Mathlib.Nat.{add-zero}
 use native.Mathlib.Omega.{arith}
 use borrow.Author.Tests.{leb-true, eqb-true, eqb-false, ne-eqb, le-leb, lt-leb}
 use lib.ListN.{length, drop, set, length-drop}
@@ -17,13 +16,12 @@ use Rattle.wire.specs.declared.Segment.{Segment}
 use Rattle.wire.specs.declared.ReadSegment.{ReadSegment}
 use Rattle.lists.specs.Parsed.{Parsed, refused, done, andThen, require, prepend, each}
 use Rattle.lists.specs.Lists.{markerWord, markerOf, readEntry, readList, segments, afterWord, counted, writeList}
-use Rattle.lists.specs.Steps.{readStep, countStep, chunkStep, listWalk, packedWalk, chunksAt, ChunksFit, withChunks}
+use Rattle.lists.specs.Steps.{readStep, countStep, chunkStep, packedWalk, chunksAt, ChunksFit, withChunks}
 use Rattle.lists.specs.declared.Marker.{Marker}
 use Rattle.lists.specs.declared.Marker.the-variants as marker
 use Rattle.lists.specs.declared.ReadStep.the-variants as read
 use Rattle.lists.specs.declared.ChunkStep.the-variants as chunk
 use Rattle.lists.specs.declared.WriteList.{WriteList}
-use Rattle.lists.specs.declared.ListWalk.the-variants as walk
 use Rattle.wire.proofs.Laws.{word-drop, read-segment-drop, stored-append}
 use Rattle.lists.proofs.Items.{length-each, store-cons}
 
@@ -97,7 +95,7 @@ entry-of last s x u e =
     record { long = leb-true 20 (length s) (a .0); is = cc; behind = cc; aligned = eqb-true (wordAt s 0 % 4) 0 (b .0); rises = leb-true last (wordAt s 0) (c .0) }
 
 -- The numbers that a marker and an entry can give.
-marker-number : (s : List ℕ) (n : ℕ) → markerOf s ≡ marker.Refused n → n ≤ 9
+pub marker-number : (s : List ℕ) (n : ℕ) → markerOf s ≡ marker.Refused n → n ≤ 9
 unfolding markerOf wordOf
 marker-number s n e = go (leb 4 (length s)) e
   where
@@ -182,6 +180,20 @@ counted-of left s c u e = go (wordOf s) refl e
         let behind : u ≡ drop (n * 16) (drop 4 s) = cc in
         record { long = omega (arith, length-drop 4 s); few = omega arith; is = is ∙ rw value; behind = behind ∙ rw (drop-drop (n * 16) 4 s, value) }
 
+-- The numbers that a count can give.
+pub count-number : (left : ℕ) (s : List ℕ) (n : ℕ) → counted left s ≡ refused n → n ≤ 9
+unfolding counted segments wordOf
+count-number left s n e = go (leb 4 (length s)) e
+  where
+    counts : (a b : Bool) (c : List Segment) (t : List ℕ) → require a 7 (require b 5 (done c t)) ≡ refused n → n ≤ 9
+    counts true true c t q = absurd (never (sym q))
+    counts true false c t q = let five : 5 ≡ n = cc in omega arith
+    counts false b c t q = let seven : 7 ≡ n = cc in omega arith
+
+    go : (b : Bool) → afterWord (cond b (word.Value (wordAt s 0)) (word.Refused 5)) (λ k. require (leb k left) 7 (segments k (drop 4 s))) ≡ refused n → n ≤ 9
+    go true q = counts (leb (wordAt s 0) left) (leb (wordAt s 0 * 16) (length (drop 4 s))) _ _ q
+    go false q = let five : 5 ≡ n = cc in omega arith
+
 -- What can stand at the front of a list of chunks.
 pub data ChunkFront (room left : ℕ) (s : List ℕ) : Type 0 where
   ends : chunkStep room left s ≡ chunk.End → markerOf s ≡ marker.End → ChunkFront room left s
@@ -234,34 +246,28 @@ chunk-of left s c u m e =
       behind = h .behind ∙ rw (← n, drop-drop (4 + length c * 16) 4 s, eight);
     }
 
--- One more entry in front is one more entry before the rest.
-pub walk-prepend : {A : Type 0} (before : ℕ) (x : A) (p : Parsed (List A)) → listWalk (before + 1) p ≡ listWalk before (prepend x p)
-unfolding listWalk
-walk-prepend before x (refused n) = refl
-walk-prepend before x (done l t) = let e : before + 1 + length l ≡ before + suc (length l) = omega arith in rw e
-
--- The same of the answer as one number.
-packed-prepend : {A : Type 0} (before : ℕ) (x : A) (p : Parsed (List A)) → packedWalk (before + 1) p ≡ packedWalk before (prepend x p)
+-- An entry in front of the rest, in the answer as one number.
+packed-prepend : {A : Type 0} (f g : List A → ℕ) (x : A) (p : Parsed (List A)) → ((l : List A) → f l ≡ g (x ∷ l)) → packedWalk f p ≡ packedWalk g (prepend x p)
 unfolding packedWalk
-packed-prepend before x (refused n) = refl
-packed-prepend before x (done l t) = omega arith
+packed-prepend f g x (refused n) e = refl
+packed-prepend f g x (done l t) e = e l
 
 -- What a checking of the read list answers, by its step.
 module _ (room last : ℕ) (s : List ℕ) where
-  pub read-end : readStep room last s ≡ read.End → (before : ℕ) → before ≡ packedWalk before (readList room last s)
+  pub read-end : readStep room last s ≡ read.End → (f : List ReadSegment → ℕ) → f [] ≡ packedWalk f (readList room last s)
   unfolding packedWalk
-  read-end e before = go (read-front room last s)
+  read-end e f = go (read-front room last s)
     where
-      go : ReadFront room last s → before ≡ packedWalk before (readList room last s)
-      go (ends f long is) = rw (is, add-zero)
+      go : ReadFront room last s → f [] ≡ packedWalk f (readList room last s)
+      go (ends h long is) = rw is
       go (faulty n f small is) = absurd (let z : _≡_ {A = ℕ} 0 1 = cc in omega arith)
       go (goes x f pos long at4 is aligned rises) = absurd (let z : _≡_ {A = ℕ} 0 1 = cc in omega arith)
 
-  pub read-refused : (n : ℕ) → readStep room last s ≡ read.Refused n → (before : ℕ) → 256 + n ≡ packedWalk before (readList room last s)
+  pub read-refused : (n : ℕ) → readStep room last s ≡ read.Refused n → (f : List ReadSegment → ℕ) → 256 + n ≡ packedWalk f (readList room last s)
   unfolding packedWalk
-  read-refused n e before = go (read-front room last s)
+  read-refused n e g = go (read-front room last s)
     where
-      go : ReadFront room last s → 256 + n ≡ packedWalk before (readList room last s)
+      go : ReadFront room last s → 256 + n ≡ packedWalk g (readList room last s)
       go (ends f long is) = absurd (let z : _≡_ {A = ℕ} 0 1 = cc in omega arith)
       go (faulty m f small is) = let same : n ≡ m = cc in rw (is, same)
       go (goes x f pos long at4 is aligned rises) = absurd (let z : _≡_ {A = ℕ} 0 1 = cc in omega arith)
@@ -269,7 +275,7 @@ module _ (room last : ℕ) (s : List ℕ) where
   pub record Further (p : ℕ) : Type 0 where
     pub room-left : 0 < room
     pub long : 24 ≤ length s
-    pub rest : (before : ℕ) → packedWalk (before + 1) (readList (room - 1) p (drop 24 s)) ≡ packedWalk before (readList room last s)
+    pub rest : (f g : List ReadSegment → ℕ) → ((x : ReadSegment) (l : List ReadSegment) → f l ≡ g (x ∷ l)) → packedWalk f (readList (room - 1) p (drop 24 s)) ≡ packedWalk g (readList room last s)
 
   pub read-further : (p : ℕ) → readStep room last s ≡ read.Entry p → Further p
   read-further p e = go (read-front room last s)
@@ -279,7 +285,7 @@ module _ (room last : ℕ) (s : List ℕ) where
       go (faulty m f small is) = absurd (let z : _≡_ {A = ℕ} 0 1 = cc in omega arith)
       go (goes x f pos long at4 is aligned rises) =
           let same : p ≡ x .position = cc in
-          record { room-left = pos; long = long; rest = λ before. rw (is, same) (packed-prepend before x _) }
+          record { room-left = pos; long = long; rest = λ g h more. rw (is, same) (packed-prepend g h x _ (more x)) }
 
 -- The write list, by what stands at its front.
 module _ (left : ℕ) (s : List ℕ) where
@@ -311,22 +317,22 @@ module _ (left : ℕ) (s : List ℕ) where
 
 -- What a checking of the write list answers, by its step.
 module _ (room left : ℕ) (s : List ℕ) where
-  pub write-end : chunkStep room left s ≡ chunk.End → (4 ≤ length s) × ((before : ℕ) → walk.Done before (length s - 4) ≡ listWalk before (writeList room left s))
-  unfolding listWalk
-  write-end e = go (chunk-front room left s)
+  pub write-end : chunkStep room left s ≡ chunk.End → (f : List (List Segment) → ℕ) → f [] ≡ packedWalk f (writeList room left s)
+  unfolding packedWalk
+  write-end e g = go (chunk-front room left s)
     where
-      go : ChunkFront room left s → (4 ≤ length s) × ((before : ℕ) → walk.Done before (length s - 4) ≡ listWalk before (writeList room left s))
-      go (ends f m) = (end-room s m, λ before. rw (writes-end left s room m, add-zero, length-drop))
+      go : ChunkFront room left s → g [] ≡ packedWalk g (writeList room left s)
+      go (ends f m) = rw (writes-end left s room m)
       go (unmarked n f m) = absurd (let z : _≡_ {A = ℕ} 0 1 = cc in omega arith)
       go (full f m h) = absurd (let z : _≡_ {A = ℕ} 0 1 = cc in omega arith)
       go (uncounted n f m h q) = absurd (let z : _≡_ {A = ℕ} 0 1 = cc in omega arith)
       go (goes c u f m h q) = absurd (let z : _≡_ {A = ℕ} 0 1 = cc in omega arith)
 
-  pub write-refused : (n : ℕ) → chunkStep room left s ≡ chunk.Refused n → (before : ℕ) → walk.Refused n ≡ listWalk before (writeList room left s)
-  unfolding listWalk
-  write-refused n e before = go (chunk-front room left s)
+  pub write-refused : (n : ℕ) → chunkStep room left s ≡ chunk.Refused n → (f : List (List Segment) → ℕ) → 256 + n ≡ packedWalk f (writeList room left s)
+  unfolding packedWalk
+  write-refused n e g = go (chunk-front room left s)
     where
-      go : ChunkFront room left s → walk.Refused n ≡ listWalk before (writeList room left s)
+      go : ChunkFront room left s → 256 + n ≡ packedWalk g (writeList room left s)
       go (ends f m) = absurd (let z : _≡_ {A = ℕ} 0 1 = cc in omega arith)
       go (unmarked k f m) = let same : n ≡ k = cc in rw (writes-unmarked left s room k m, same)
       go (full f m h) = let same : n ≡ 7 = cc in rw (writes-full left s room h m, same)
@@ -337,7 +343,8 @@ module _ (room left : ℕ) (s : List ℕ) where
     pub room-left : 0 < room
     pub few : n ≤ left
     pub long : 8 + n * 16 ≤ length s
-    pub rest : (before : ℕ) → listWalk (before + 1) (writeList (room - 1) (left - n) (drop (8 + n * 16) s)) ≡ listWalk before (writeList room left s)
+    pub rest : (f g : List (List Segment) → ℕ) → ((c : List Segment) (cs : List (List Segment)) → length c ≡ n → f cs ≡ g (c ∷ cs)) →
+        packedWalk f (writeList (room - 1) (left - n) (drop (8 + n * 16) s)) ≡ packedWalk g (writeList room left s)
 
   pub write-further : (n : ℕ) → chunkStep room left s ≡ chunk.Chunk n → FurtherChunk n
   write-further n e = go (chunk-front room left s)
@@ -354,8 +361,16 @@ module _ (room left : ℕ) (s : List ℕ) where
             room-left = h;
             few = rw same (k .few);
             long = rw same (k .long);
-            rest = λ before. rw (same, writes-chunk left s room c u h m q, ← (k .behind)) (walk-prepend before c _);
+            rest = λ f g more. rw (same, writes-chunk left s room c u h m q, ← (k .behind)) (packed-prepend f g c _ (λ l. more c l (sym same)));
           }
+
+-- A chunk of n segments more, in the answer as one number.
+pub chunk-counts : (room left n a b c : ℕ) → 0 < room → room ≤ 4 → n ≤ left → left ≤ 16 → c ≡ n + b →
+    (4 - (room - 1) + a) * 32 + (16 - (left - n) + b) ≡ (4 - room + suc a) * 32 + (16 - left + c)
+chunk-counts room left n a b c more few within most e =
+    let r : 4 - (room - 1) ≡ 4 - room + 1 = omega arith in
+    let l : 16 - (left - n) ≡ 16 - left + n = omega arith in
+    rw (r, l, e) (omega arith)
 
 -- What a count answers once its word was read.
 module _ (left : ℕ) (s : List ℕ) (n : ℕ) (value : wordOf s ≡ word.Value n) (few : n ≤ left) where

@@ -24,38 +24,32 @@ abbrev pub entryStep : Parsed ReadSegment → ReadStep
 entryStep (refused n) = read.Refused n
 entryStep (done x t) = read.Entry (x .position)
 
--- What stands at the front of a read list: its end, an entry, or a fault.
-abbrev pub readMarked : Marker → ReadStep → ReadStep
-readMarked (marker.Refused n) entry = read.Refused n
-readMarked marker.End entry = read.End
-readMarked marker.Entry entry = entry
+-- What stands at the front of a list of at most `room` entries: a fault, its end, or an entry.
+abbrev pub marked : {A : Type 0} → (ℕ → A) → A → Marker → ℕ → A → A
+marked fault end (marker.Refused n) room entry = fault n
+marked fault end marker.End room entry = end
+marked fault end marker.Entry room entry = cond (eqb room 0) (fault 7) entry
 
 unfoldable pub readStep : ℕ → ℕ → List ℕ → ReadStep
-readStep room last s = readMarked (markerOf s) (cond (eqb room 0) (read.Refused 7) (entryStep (readEntry last (drop 4 s))))
+readStep room last s = marked read.Refused read.End (markerOf s) room (entryStep (readEntry last (drop 4 s)))
 
 -- A counted run of segments: how many, or the number.
 abbrev pub countStep : Parsed (List Segment) → ChunkStep
 countStep (refused n) = chunk.Refused n
 countStep (done c t) = chunk.Chunk (length c)
 
--- What stands at the front of a list of chunks: its end, a chunk, or a fault.
-abbrev pub chunkMarked : Marker → ChunkStep → ChunkStep
-chunkMarked (marker.Refused n) entry = chunk.Refused n
-chunkMarked marker.End entry = chunk.End
-chunkMarked marker.Entry entry = entry
-
 unfoldable pub chunkStep : ℕ → ℕ → List ℕ → ChunkStep
-chunkStep room left s = chunkMarked (markerOf s) (cond (eqb room 0) (chunk.Refused 7) (countStep (counted left (drop 4 s))))
+chunkStep room left s = marked chunk.Refused chunk.End (markerOf s) room (countStep (counted left (drop 4 s)))
 
 -- A whole list, behind `before` entries: how many entries there are then, and the bytes left behind it.
 unfoldable pub listWalk : {A : Type 0} → ℕ → Parsed (List A) → ListWalk
 listWalk before (refused n) = walk.Refused n
 listWalk before (done l t) = walk.Done (before + length l) (length t)
 
--- The same as one number, without the bytes left: a refusal is 256 and its number.
-unfoldable pub packedWalk : {A : Type 0} → ℕ → Parsed (List A) → ℕ
-packedWalk before (refused n) = 256 + n
-packedWalk before (done l t) = before + length l
+-- A whole list as one number, what `answer` says of its entries: a refusal is 256 and its number.
+unfoldable pub packedWalk : {A : Type 0} → (List A → ℕ) → Parsed (List A) → ℕ
+packedWalk answer (refused n) = 256 + n
+packedWalk answer (done l t) = answer l
 
 -- The chunks of a write list that was read, by their count words: the next count word stands behind a marker.
 unfoldable pub chunksAt : ℕ → List ℕ → List (List Segment)

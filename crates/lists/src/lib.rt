@@ -6,7 +6,7 @@ use wire::Word;
 ghost use mathlib.Core.Path.{_≡_};
 ghost use Prim.Native.Nat.{_+_, _*_, _-_, _≤_};
 ghost use lib.ListN.{length, take, drop};
-ghost use Rattle.wire.specs.Wire.{segmentAt, stored};
+ghost use Rattle.wire.specs.Wire.{segmentAt, stored, joined};
 ghost use Rattle.lists.specs.Parsed.{each};
 ghost use Rattle.lists.specs.Lists.{markerOf, readEntry, readList, positionsNumber, counted, writeList};
 ghost use Rattle.lists.specs.Steps.{entryStep, readStep, countStep, chunkStep, listWalk, packedWalk, markedSegmentAt, zeroReads, chunksAt, ChunksFit, withChunks};
@@ -37,8 +37,10 @@ pub const POSITION_FALLS: u32 = 8;
 // "a read position that is no multiple of 4"
 pub const POSITION_UNALIGNED: u32 = 9;
 
-// Above the answers of a walk over a read list: a refusal, with its number added.
+// Above the answers of a walk over a list: a refusal, with its number added.
 const REFUSED: usize = 256;
+// What a chunk counts for in such an answer, where each of its segments counts for 1.
+const CHUNK_UNIT: usize = 32;
 
 pub struct ReadList {
     pub segments: [ReadSegment; 16],
@@ -140,7 +142,7 @@ fn read_step(s: &[u8], room: usize, last: u32) -> ReadStep
 // one number, how many entries there are or REFUSED and the number: an enum would be copied at each level.
 fn walk_entries(s: &[u8], room: usize, last: u32) -> usize
     requires { ⌜ room ≤ 16 ⌝ }
-    ensures { λ r. ⌜ r ≡ packedWalk (16 - room) (readList room last (now (s .entry))) ⌝ }
+    ensures { λ r. ⌜ r ≡ packedWalk (λ l. 16 - room + length l) (readList room last (now (s .entry))) ⌝ }
 {
     let step = read_step(s, room, last);
     match step {
@@ -201,20 +203,37 @@ pub fn chunk_step(s: &[u8], room: usize, left: usize) -> ChunkStep
     }
 }
 
-// Checks the write list at the front of s, of at most `room` chunks with at most `left` segments together.
-pub fn walk_writes(s: &[u8], room: usize, left: usize) -> ListWalk
+// Checks the write list at the front of s, of at most `room` chunks with at most `left` segments together. The answer is one
+// number as that of walk_entries is.
+fn walk_chunks(s: &[u8], room: usize, left: usize) -> usize
     requires { ⌜ (room ≤ 4) × (left ≤ 16) ⌝ }
-    ensures { λ r. ⌜ r ≡ listWalk (4 - room) (writeList room left (now (s .entry))) ⌝ }
+    ensures { λ r. ⌜ r ≡ packedWalk (λ cs. (4 - room + length cs) * 32 + (16 - left + length (joined (λ c. c) cs))) (writeList room left (now (s .entry))) ⌝ }
 {
     let step = chunk_step(s, room, left);
     match step {
-        ChunkStep::End => ListWalk::Done(WRITE_CHUNKS - room, s.len() - wire::WORD_BYTES),
-        ChunkStep::Refused(number) => ListWalk::Refused(number),
+        ChunkStep::End => (WRITE_CHUNKS - room) * CHUNK_UNIT + (WRITE_SEGMENTS - left),
+        ChunkStep::Refused(number) => REFUSED + number as usize,
         ChunkStep::Chunk(n) => {
             let end = CHUNK_HEAD_BYTES + n * wire::SEGMENT_BYTES;
-            walk_writes(&s[end..], room - 1, left - n)
+            walk_chunks(&s[end..], room - 1, left - n)
         }
     }
+}
+
+// Checks the write list at the front of s.
+pub fn walk_writes(s: &[u8]) -> ListWalk
+    ensures { λ r. ⌜ r ≡ listWalk 0 (writeList 4 16 (now (s .entry))) ⌝ }
+{
+    let answer = walk_chunks(s, WRITE_CHUNKS, WRITE_SEGMENTS);
+    if REFUSED <= answer {
+        return ListWalk::Refused((answer - REFUSED) as u32);
+    }
+    let chunks = answer / CHUNK_UNIT;
+    let segments = answer % CHUNK_UNIT;
+    ListWalk::Done(
+        chunks,
+        s.len() - wire::WORD_BYTES - chunks * CHUNK_HEAD_BYTES - segments * wire::SEGMENT_BYTES,
+    )
 }
 
 // The n entries of a read list that was checked.

@@ -1,9 +1,10 @@
 -- `lists::walk_entries` meets its contract.
 use Rattle.wire.proofs.Laws.{part-from}
-use mathlib.Core.Path.{_≡_, sym, _∙_}
+use mathlib.Core.Path.{sym, _∙_}
 use Rattle.lists.proofs.Laws.{read-end, read-refused, read-further}
 use native.Mathlib.Omega.{arith}
 use borrow.Author.Needs.{needs}
+use lib.ListN.{length}
 use Prim.Native.Nat.{ℕ, _+_, _-_, _<_}
 use borrow.Fn.Kinds.{In}
 use borrow.Fn.PlainCycle.{Measures, is, falls, and}
@@ -71,7 +72,7 @@ module _ (t : ℕ) where
   walk-entries-requires c κs = let h = read-further _ _ _ _ (sym (c .before .before .before .before .read-step .ensures) ∙ c .before .before .step2 .given .1) .room-left in search needs
 
   returns : lts.Need-returns (claims t) (at t) reads.Post
-  returns c = read-end _ _ _ (sym (c .before .before .read-step .ensures) ∙ c .enum-told .given .1) _
+  returns c = let e = read-end _ _ _ (sym (c .before .before .read-step .ensures) ∙ c .enum-told .given .1) (λ l. 16 - c .before .before .before .before .args .room + length l) in omega (arith, e)
 
   returns-2 : lts.Need-returns-2 (claims t) (at t) reads.Post
   returns-2 c = read-refused _ _ _ _ (sym (c .before .before .before .read-step .ensures) ∙ c .before .step .given .1) _
@@ -79,8 +80,8 @@ module _ (t : ℕ) where
   returns-3 : lts.Need-returns-3 (claims t) (at t) reads.Post
   returns-3 c =
       let h = read-further _ _ _ _ (sym (c .before .before .before .before .before .read-step .ensures) ∙ c .before .before .before .step2 .given .1) in
-      let e : 16 - (c .before .before .before .before .before .before .before .args .room - 1) ≡ 16 - c .before .before .before .before .before .before .before .args .room + 1 = omega (arith, h .room-left) in
-      c .walk-entries .ensures ∙ rw (part-from, e) (h .rest _)
+      let left = h .room-left in
+      c .walk-entries .ensures ∙ rw part-from (h .rest (λ l. 16 - (c .before .before .before .before .before .before .before .args .room - 1) + length l) (λ l. 16 - c .before .before .before .before .before .before .before .args .room + length l) (λ x l. omega arith))
 
 pub +walk-entries-spec : {M : Type 1} → statement M
 +walk-entries-spec = close μ λ t. lts.spec (claims t) (at t) reads.Post
