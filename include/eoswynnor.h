@@ -6,23 +6,24 @@
  * What a caller has to keep to:
  * - A buffer is lent for the call alone, as pointer and length. The pointer is valid for that many bytes and never
  *   null: for length 0 any pointer that is not null will do. A length is at most PTRDIFF_MAX.
- * - The buffers lent to one call (frame and out, piece and out) do not overlap, and nobody else writes them meanwhile.
- * - The state of a reassembly is handed on: each call gets the one that was handed back last, and the same buffer, with
- *   nothing in it changed. Another length of the buffer is refused; other contents cannot be noticed.
+ * - A struct is lent by pointer where a call reads or changes the caller's own: never null, and aligned as C has it.
+ * - What is lent to one call (frame and out, state, piece and out) does not overlap, and nobody else writes it meanwhile.
+ * - The state of a reassembly is handed on: each call gets it as the last one left it, and the same buffer, with nothing
+ *   in it changed. Another length of the buffer is refused; other contents cannot be noticed.
  * - Structs have holes whose bytes mean nothing: compare them field by field, never with memcmp.
  *
  * For the rest any bytes, header, state and number may be handed in. A call answers a number, 0 when done. A refused call
- * changes no byte that was lent, hands back the state that it got, and all else as 0; a refused start, which got none,
- * hands back a state of zeros.
+ * changes no byte that was lent, nor the state, and hands back all else as 0; a refused start, which got no state, hands
+ * back one of zeros.
  *
  * The way of a call:
  *
  *     struct eos_state_answer a = eos_start(frame, frame_len, out, out_len);
  *     if (a.number != EOS_DONE) refuse: eos_error_reply(frame, frame_len, a.number, limit, reply, EOS_LONGEST_REPLY);
  *     for each piece pulled, in the order of a.state.reads:
- *         a = eos_take_piece(a.state, piece, piece_len, out, out_len);    (a refused piece leaves a.state as it was)
- *     if (eos_ask(a.state, out, out_len) == EOS_DONE)
- *         the message is the first eos_message(a.state, out, out_len).length bytes of out
+ *         eos_take_piece(&a.state, piece, piece_len, out, out_len);    (a refused piece leaves a.state as it was)
+ *     if (eos_ask(&a.state, out, out_len) == EOS_DONE)
+ *         the message is the first eos_message(&a.state, out, out_len).length bytes of out
  */
 #ifndef EOSWYNNOR_H
 #define EOSWYNNOR_H
@@ -183,7 +184,7 @@ struct eos_part eos_payload(const uint8_t *frame, size_t frame_len);
 
 /* Writes a header to the front of a buffer; the payload is the caller's. Numbers 20, 12, 7, then entry by entry 9 and 8,
  * then 21, 16. */
-struct eos_write_answer eos_write_header(struct eos_header h, uint8_t *out, size_t out_len);
+struct eos_write_answer eos_write_header(const struct eos_header *h, uint8_t *out, size_t out_len);
 
 /* Reads setup data from the first 8 bytes. Where there is none, present is 0, the flag 0 and both sizes are 1,024.
  * Always number 0. */
@@ -212,15 +213,14 @@ struct eos_write_answer eos_error_reply(const uint8_t *frame, size_t frame_len, 
 struct eos_state_answer eos_start(const uint8_t *frame, size_t frame_len, uint8_t *out, size_t out_len);
 
 /* Takes the next pulled bytes, cut as they come: the bytes of reads[0], then those of reads[1] and so on; an empty piece
- * at any time. Of the state only taken changes. Numbers 17, 18. */
-struct eos_state_answer eos_take_piece(struct eos_state s, const uint8_t *piece, size_t piece_len,
-                                       uint8_t *out, size_t out_len);
+ * at any time. Of the state, which is changed where it lies, only taken changes. Numbers 17, 18. */
+uint32_t eos_take_piece(struct eos_state *s, const uint8_t *piece, size_t piece_len, uint8_t *out, size_t out_len);
 
 /* Whether all bytes are in. Numbers 17, 19. */
-uint32_t eos_ask(struct eos_state s, const uint8_t *out, size_t out_len);
+uint32_t eos_ask(const struct eos_state *s, const uint8_t *out, size_t out_len);
 
 /* Where the message lies: the first part of the buffer; empty where eos_ask refuses. */
-struct eos_part eos_message(struct eos_state s, const uint8_t *out, size_t out_len);
+struct eos_part eos_message(const struct eos_state *s, const uint8_t *out, size_t out_len);
 
 #ifdef __cplusplus
 }

@@ -32,24 +32,24 @@ static void rdma_read(struct eos_segment from, size_t done, uint8_t *into, size_
 /* Reassembles a call in out. Answers 0 and where the message lies, or the number of the refusal. */
 static uint32_t receive(const uint8_t *frame, size_t frame_len, uint8_t *out, size_t out_len, struct eos_part *message)
 {
-    struct eos_state_answer s = eos_start(frame, frame_len, out, out_len);
-    if (s.number != EOS_DONE)
-        return s.number;
-    for (uint32_t i = 0; i < s.state.read_count; i++) {
-        struct eos_segment from = s.state.reads[i].target;
+    struct eos_state_answer a = eos_start(frame, frame_len, out, out_len);
+    struct eos_state *s = &a.state;
+    if (a.number != EOS_DONE)
+        return a.number;
+    for (uint32_t i = 0; i < s->read_count; i++) {
+        struct eos_segment from = s->reads[i].target;
         for (size_t done = 0; done < from.length;) {
             uint8_t piece[PIECE];
             size_t length = from.length - done < PIECE ? from.length - done : PIECE;
             rdma_read(from, done, piece, length);
-            s = eos_take_piece(s.state, piece, length, out, out_len);
-            if (s.number != EOS_DONE)
-                return s.number;
+            uint32_t number = eos_take_piece(s, piece, length, out, out_len);
+            if (number != EOS_DONE)
+                return number;
             done += length;
         }
     }
-    uint32_t number = eos_ask(s.state, out, out_len);
-    *message = eos_message(s.state, out, out_len);
-    return number;
+    *message = eos_message(s, out, out_len);
+    return eos_ask(s, out, out_len);
 }
 
 /* Serves one frame: hands the message to the RPC layer, or sends the error reply. Here both are printed. */
@@ -113,7 +113,7 @@ static size_t call(uint32_t kind, const struct eos_read_segment *reads, uint32_t
     h.read_count = count;
     memcpy(h.reads, reads, count * sizeof *reads);
 
-    struct eos_write_answer w = eos_write_header(h, frame, room);
+    struct eos_write_answer w = eos_write_header(&h, frame, room);
     if (w.number != EOS_DONE || inline_len > room - w.length)
         return 0;
     memcpy(frame + w.length, client_memory, inline_len);

@@ -163,9 +163,9 @@ static void writing(void)
     h.xid = 0x12345678;
     h.credit = 0x9abcdef0;
 
-    struct eos_write_answer w = eos_write_header(h, out, sizeof out);
+    struct eos_write_answer w = eos_write_header(&h, out, sizeof out);
     EXPECT(w.number == EOS_DONE && w.length == 960);
-    EXPECT(eos_write_header(h, out, 959).number == EOS_BUFFER_SHORT);
+    EXPECT(eos_write_header(&h, out, 959).number == EOS_BUFFER_SHORT);
     struct eos_read_answer r = eos_read_header(out, w.length);
     EXPECT(r.number == EOS_DONE && r.header.kind == EOS_NOMSG);
     EXPECT(r.header.xid == h.xid && r.header.credit == h.credit);
@@ -181,11 +181,11 @@ static void writing(void)
     EXPECT(memcmp(r.header.reply, h.reply, sizeof h.reply) == 0);
 
     struct eos_header e = {.kind = EOS_ERROR_VERSION, .low = 5, .high = 6, .xid = 7, .credit = 8};
-    w = eos_write_header(e, out, sizeof out);
+    w = eos_write_header(&e, out, sizeof out);
     EXPECT(w.number == EOS_DONE && w.length == 28);
     EXPECT(out[3] == 7 && out[11] == 8 && out[15] == 4 && out[19] == 1 && out[23] == 5 && out[27] == 6);
     e.kind = 4;
-    EXPECT(eos_write_header(e, out, sizeof out).number == EOS_BAD_ARGUMENT);
+    EXPECT(eos_write_header(&e, out, sizeof out).number == EOS_BAD_ARGUMENT);
 }
 
 static void connecting(void)
@@ -233,17 +233,14 @@ static void reassembling(void)
     EXPECT(s.state.reads[0].position == 8 && s.state.reads[0].target.length == 5);
 
     for (size_t i = 0; i < sizeof pulled; i++) {
-        EXPECT(eos_ask(s.state, out, sizeof out) == EOS_BYTES_MISSING);
-        s = eos_take_piece(s.state, pulled + i, 1, out, sizeof out);
-        EXPECT(s.number == EOS_DONE && s.state.taken == i + 1);
+        EXPECT(eos_ask(&s.state, out, sizeof out) == EOS_BYTES_MISSING);
+        EXPECT(eos_take_piece(&s.state, pulled + i, 1, out, sizeof out) == EOS_DONE && s.state.taken == i + 1);
     }
-    s = eos_take_piece(s.state, pulled, 1, out, sizeof out);
-    EXPECT(s.number == EOS_PIECE_LONG && s.state.taken == 5);
-    s = eos_take_piece(s.state, pulled, 0, out, sizeof out);
-    EXPECT(s.number == EOS_DONE && s.state.taken == 5);
-    EXPECT(eos_ask(s.state, out, sizeof out - 1) == EOS_STATE_UNFIT);
-    EXPECT(eos_ask(s.state, out, sizeof out) == EOS_DONE);
-    struct eos_part part = eos_message(s.state, out, sizeof out);
+    EXPECT(eos_take_piece(&s.state, pulled, 1, out, sizeof out) == EOS_PIECE_LONG && s.state.taken == 5);
+    EXPECT(eos_take_piece(&s.state, pulled, 0, out, sizeof out) == EOS_DONE && s.state.taken == 5);
+    EXPECT(eos_ask(&s.state, out, sizeof out - 1) == EOS_STATE_UNFIT);
+    EXPECT(eos_ask(&s.state, out, sizeof out) == EOS_DONE);
+    struct eos_part part = eos_message(&s.state, out, sizeof out);
     EXPECT(part.offset == 0 && part.length == sizeof message);
     EXPECT(memcmp(out, message, sizeof message) == 0 && out[20] == 0xee);
 }

@@ -269,7 +269,7 @@ static struct lent some_frame(void)
     uint32_t base = 4 * below(12);
     struct eos_header h = some_header(base);
     uint8_t written[EOS_LONGEST_HEADER];
-    struct eos_write_answer w = eos_write_header(h, written, sizeof written);
+    struct eos_write_answer w = eos_write_header(&h, written, sizeof written);
     CHECK(w.number == EOS_DONE && w.length <= sizeof written);
     size_t behind = h.kind == EOS_MSG ? base : 0;
     size_t length = below(8) ? w.length + behind : below(100);
@@ -318,7 +318,7 @@ static void write_one(const struct eos_header *h)
 {
     struct lent out = lend(below(2) ? EOS_LONGEST_HEADER : below(EOS_LONGEST_HEADER));
     struct lent was = copy_of(out.bytes, out.length);
-    struct eos_write_answer w = eos_write_header(*h, out.bytes, out.length);
+    struct eos_write_answer w = eos_write_header(h, out.bytes, out.length);
     answered(w.number, WRITE_NUMBERS);
     CHECK(w.length <= out.length && same_behind(out, was, w.length));
     CHECK((w.number == EOS_DONE) == (w.length > 0));
@@ -344,10 +344,10 @@ static struct eos_read_answer read_one(struct lent frame, struct eos_part *part)
     CHECK(r.header.kind == EOS_MSG || (r.header.kind <= EOS_ERROR_CHUNK && part->length == 0));
     struct lent out = lend(frame.length - part->length);
     struct lent was = copy_of(out.bytes, out.length);
-    struct eos_write_answer w = eos_write_header(r.header, out.bytes, out.length - 1);
+    struct eos_write_answer w = eos_write_header(&r.header, out.bytes, out.length - 1);
     answered(w.number, BIT(EOS_BUFFER_SHORT));
     CHECK(w.length == 0 && same_bytes(out, was));
-    w = eos_write_header(r.header, out.bytes, out.length);
+    w = eos_write_header(&r.header, out.bytes, out.length);
     CHECK(w.number == EOS_DONE && w.length == out.length && memcmp(out.bytes, frame.bytes, w.length) == 0);
     give_back(was);
     give_back(out);
@@ -379,63 +379,61 @@ static void take_damaged(struct eos_state s, struct lent buffer)
     damage_state(&s);
     struct lent out = copy_of(buffer.bytes, buffer.length);
     struct lent piece = lend(below(8));
-    struct eos_state_answer a = eos_take_piece(s, piece.bytes, piece.length, out.bytes, out.length);
-    struct eos_part part = eos_message(a.state, out.bytes, out.length);
-    answered(a.number, TAKE_NUMBERS);
-    answered(eos_ask(a.state, out.bytes, out.length), ASK_NUMBERS);
-    CHECK(part.offset == 0 && part.length <= out.length);
-    if (a.number == EOS_DONE)
-        s.taken += piece.length;
+    struct eos_state was = s;
+    uint32_t number = eos_take_piece(&s, piece.bytes, piece.length, out.bytes, out.length);
+    answered(number, TAKE_NUMBERS);
+    if (number == EOS_DONE)
+        was.taken += piece.length;
     else
         CHECK(same_bytes(out, buffer));
-    CHECK(same_state(&a.state, &s));
+    CHECK(same_state(&s, &was));
+    struct eos_part part = eos_message(&s, out.bytes, out.length);
+    answered(eos_ask(&s, out.bytes, out.length), ASK_NUMBERS);
+    CHECK(part.offset == 0 && part.length <= out.length);
+    CHECK(same_state(&s, &was));
     give_back(piece);
     give_back(out);
 }
 
 /* All pulled bytes in pieces, with calls between them that must change nothing. */
-static struct eos_state_answer take_all(struct eos_state_answer s, struct lent pulled, struct lent out)
+static void take_all(struct eos_state *s, struct lent pulled, struct lent out)
 {
-    for (uint32_t calls = 0; s.state.taken < pulled.length || calls < 4; calls++) {
-        struct eos_state_answer was = s;
+    for (uint32_t calls = 0; s->taken < pulled.length || calls < 4; calls++) {
+        struct eos_state was = *s;
         struct lent before = copy_of(out.bytes, out.length);
-        size_t rest = pulled.length - s.state.taken;
+        size_t rest = pulled.length - s->taken;
         struct lent piece, other;
         switch (below(6)) {
         case 0: /* too long */
             piece = lend(rest + 1 + below(8));
-            s = eos_take_piece(s.state, piece.bytes, piece.length, out.bytes, out.length);
-            answered(s.number, BIT(EOS_PIECE_LONG));
-            CHECK(same_state(&s.state, &was.state) && same_bytes(out, before));
+            answered(eos_take_piece(s, piece.bytes, piece.length, out.bytes, out.length), BIT(EOS_PIECE_LONG));
+            CHECK(same_state(s, &was) && same_bytes(out, before));
             break;
         case 1: /* another buffer length */
             piece = lend(below(3));
             other = lend(out.length + 1);
-            s = eos_take_piece(s.state, piece.bytes, piece.length, other.bytes, other.length);
-            answered(s.number, BIT(EOS_STATE_UNFIT));
-            CHECK(eos_ask(s.state, other.bytes, other.length) == EOS_STATE_UNFIT);
-            CHECK(same_state(&s.state, &was.state));
+            answered(eos_take_piece(s, piece.bytes, piece.length, other.bytes, other.length), BIT(EOS_STATE_UNFIT));
+            CHECK(eos_ask(s, other.bytes, other.length) == EOS_STATE_UNFIT);
+            CHECK(same_state(s, &was));
             give_back(other);
             break;
         case 2: /* asking */
             piece = lend(0);
-            answered(eos_ask(s.state, out.bytes, out.length), rest ? BIT(EOS_BYTES_MISSING) : BIT(EOS_DONE));
-            CHECK(rest == 0 || eos_message(s.state, out.bytes, out.length).length == 0);
+            answered(eos_ask(s, out.bytes, out.length), rest ? BIT(EOS_BYTES_MISSING) : BIT(EOS_DONE));
+            CHECK(rest == 0 || eos_message(s, out.bytes, out.length).length == 0);
             break;
         default: /* the next bytes, at times none */
-            piece = copy_of(pulled.bytes + s.state.taken, below((uint32_t)rest + 1));
-            s = eos_take_piece(s.state, piece.bytes, piece.length, out.bytes, out.length);
-            CHECK(s.number == EOS_DONE);
-            was.state.taken += piece.length;
-            CHECK(same_state(&s.state, &was.state));
+            piece = copy_of(pulled.bytes + s->taken, below((uint32_t)rest + 1));
+            CHECK(eos_take_piece(s, piece.bytes, piece.length, out.bytes, out.length) == EOS_DONE);
+            was.taken += piece.length;
+            CHECK(same_state(s, &was));
             if (piece.length == 0)
                 CHECK(same_bytes(out, before));
         }
-        take_damaged(s.state, out);
+        take_damaged(*s, out);
         give_back(piece);
         give_back(before);
     }
-    return s;
 }
 
 static void assemble_one(struct lent frame, const struct eos_read_answer *r, struct eos_part inline_part)
@@ -455,13 +453,12 @@ static void assemble_one(struct lent frame, const struct eos_read_answer *r, str
         struct lent at_once = copy_of(out.bytes, out.length);
         CHECK(same_reads(s.state.reads, r->header.reads) && s.state.read_count == r->header.read_count);
         CHECK(s.state.kind == r->header.kind && s.state.buffer == out.length && s.state.taken == 0);
-        struct eos_state_answer a =
-            eos_take_piece(s.state, pulled.bytes, pulled.length, at_once.bytes, at_once.length);
-        CHECK(a.number == EOS_DONE);
-        s = take_all(s, pulled, out);
-        struct eos_part message = eos_message(s.state, out.bytes, out.length);
-        CHECK(eos_ask(s.state, out.bytes, out.length) == EOS_DONE);
-        CHECK(same_state(&s.state, &a.state) && same_bytes(out, at_once));
+        struct eos_state whole = s.state;
+        CHECK(eos_take_piece(&whole, pulled.bytes, pulled.length, at_once.bytes, at_once.length) == EOS_DONE);
+        take_all(&s.state, pulled, out);
+        struct eos_part message = eos_message(&s.state, out.bytes, out.length);
+        CHECK(eos_ask(&s.state, out.bytes, out.length) == EOS_DONE);
+        CHECK(same_state(&s.state, &whole) && same_bytes(out, at_once));
         CHECK(message.offset == 0 && message.length == length && same_behind(out, was, length));
         give_back(at_once);
         give_back(pulled);

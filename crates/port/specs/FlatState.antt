@@ -45,6 +45,11 @@ stateOfFlat f kind = record {
   taken = f .taken;
 }
 
+-- "of the state only the count of bytes taken changes"
+abbrev pub withCount : FlatState → ℕ → FlatState
+withCount f taken =
+    record { reads = f .reads; base = f .base; buffer = f .buffer; taken = taken; «read_count» = f .«read_count»; kind = f .kind }
+
 -- What taking a piece answers, by the kind found: 17 beside the state as it came where there is none, else what the library answers.
 abbrev pub takenAs : FlatState → Known → ℕ → ℕ → FlatStateAnswer
 takenAs f No room size = record { state = f; number = 17 }

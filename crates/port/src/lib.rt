@@ -1,5 +1,6 @@
 // The library's calls for C and Rust: flat structs, kinds and flags as numbers, parts as offset and length.
 use assembly::State;
+use assembly::Taken;
 use header::ErrorKind;
 use header::FrameWalk;
 use header::Header;
@@ -27,7 +28,7 @@ ghost use Rattle.assembly.specs.Assembly.{startAnswer, startInto};
 ghost use Rattle.reply.specs.Reply.{grantAnswer, errorReplyAnswer, errorReplyInto};
 ghost use Rattle.setup.specs.Setup.{readSetup};
 ghost use Rattle.port.specs.FlatSetup.{flatSetupOf, flatSetupAnswer, setupOfFlat, flatSetupWritten, flatSetupInto, flatAgreementOf, flatAgreement};
-ghost use Rattle.port.specs.FlatState.{stateKind, flatStateOf, flatStarted, stateOfFlat, flatTaken, flatTakenInto, flatAsked, flatMessage};
+ghost use Rattle.port.specs.FlatState.{stateKind, flatStateOf, flatStarted, stateOfFlat, withCount, flatTaken, flatTakenInto, flatAsked, flatMessage};
 ghost use Rattle.port.specs.Fill.{emptyHeader, withPlaces, writesOf};
 ghost use Rattle.port.specs.Flat.{kindNumber, lowOf, highOf, flagNumber, flatOf, flatAnswer, partOf, kindOf, headerOfFlat, flatWritten, flatInto};
 
@@ -328,9 +329,7 @@ fn header_of_flat(f: FlatHeader, kind: Kind, present: bool) -> Header
     }
 }
 
-// Writes a header into a buffer.
-#[no_mangle]
-pub extern "C" fn eos_write_header(f: FlatHeader, out: &mut [u8]) -> WriteAnswer
+fn write_flat(f: FlatHeader, out: &mut [u8]) -> WriteAnswer
     ensures answer { λ r. ⌜ r ≡ flatWritten f (length (now (out .entry))) ⌝ }
     ensures buffer { λ _. ⌜ now (out .exit) ≡ flatInto f (now (out .entry)) ⌝ }
 {
@@ -343,6 +342,15 @@ pub extern "C" fn eos_write_header(f: FlatHeader, out: &mut [u8]) -> WriteAnswer
     }
     let h = header_of_flat(f, kind, f.reply_present == 1);
     writer::write_header(h, out)
+}
+
+// Writes a header into a buffer.
+#[no_mangle]
+pub extern "C" fn eos_write_header(h: &FlatHeader, out: &mut [u8]) -> WriteAnswer
+    ensures answer { λ r. ⌜ r ≡ flatWritten (now (h .entry)) (length (now (out .entry))) ⌝ }
+    ensures buffer { λ _. ⌜ now (out .exit) ≡ flatInto (now (h .entry)) (now (out .entry)) ⌝ }
+{
+    write_flat(*h, out)
 }
 
 // The setup data of one side. The flag is 0 or 1, a size is its number of bytes.
@@ -540,37 +548,35 @@ fn state_of_flat(f: FlatState, kind: Kind) -> State
     }
 }
 
-// Takes a piece of the pulled bytes. Of the state handed in, only the count changes.
-#[no_mangle]
-pub extern "C" fn eos_take_piece(f: FlatState, piece: &[u8], out: &mut [u8]) -> FlatStateAnswer
-    ensures answer { λ r. ⌜ r ≡ flatTaken f (length (now (out .entry))) (length (now (piece .entry))) ⌝ }
+// Takes a piece without the state, of which only the count changes.
+fn take_flat(f: FlatState, piece: &[u8], out: &mut [u8]) -> Taken
+    ensures answer { λ r. ⌜ record { state = withCount f (r .taken); number = r .number } ≡ flatTaken f (length (now (out .entry))) (length (now (piece .entry))) ⌝ }
     ensures buffer { λ _. ⌜ now (out .exit) ≡ flatTakenInto f (now (piece .entry)) (now (out .entry)) ⌝ }
 {
     let known = state_kind(f.kind);
     let Known::Is(kind) = known else {
-        return FlatStateAnswer {
-            state: f,
+        return Taken {
+            taken: f.taken,
             number: assembly::STATE_UNFIT,
         };
     };
-    let done = assembly::put_piece(state_of_flat(f, kind), piece, out);
-    let reads = f.reads;
-    FlatStateAnswer {
-        state: FlatState {
-            reads,
-            base: f.base,
-            buffer: f.buffer,
-            taken: done.taken,
-            read_count: f.read_count,
-            kind: f.kind,
-        },
-        number: done.number,
-    }
+    assembly::put_piece(state_of_flat(f, kind), piece, out)
 }
 
-// Asks whether all bytes are in.
+// Takes a piece of the pulled bytes. The state is changed where it lies; of it, only the count.
 #[no_mangle]
-pub extern "C" fn eos_ask(f: FlatState, out: &[u8]) -> u32
+pub extern "C" fn eos_take_piece(s: &mut FlatState, piece: &[u8], out: &mut [u8]) -> u32
+    ensures answer { λ r. ⌜ r ≡ flatTaken (now (s .entry)) (length (now (out .entry))) (length (now (piece .entry))) .number ⌝ }
+    ensures state { λ _. ⌜ now (s .exit) ≡ flatTaken (now (s .entry)) (length (now (out .entry))) (length (now (piece .entry))) .state ⌝ }
+    ensures buffer { λ _. ⌜ now (out .exit) ≡ flatTakenInto (now (s .entry)) (now (piece .entry)) (now (out .entry)) ⌝ }
+{
+    let before = *s;
+    let done = take_flat(before, piece, out);
+    s.taken = done.taken;
+    done.number
+}
+
+fn ask_flat(f: FlatState, out: &[u8]) -> u32
     ensures { λ r. ⌜ r ≡ flatAsked f (length (now (out .entry))) ⌝ }
 {
     let known = state_kind(f.kind);
@@ -580,9 +586,15 @@ pub extern "C" fn eos_ask(f: FlatState, out: &[u8]) -> u32
     assembly::ask(state_of_flat(f, kind), out)
 }
 
-// Where the message lies in the buffer, once all bytes are in.
+// Asks whether all bytes are in.
 #[no_mangle]
-pub extern "C" fn eos_message(f: FlatState, out: &[u8]) -> FlatPart
+pub extern "C" fn eos_ask(s: &FlatState, out: &[u8]) -> u32
+    ensures { λ r. ⌜ r ≡ flatAsked (now (s .entry)) (length (now (out .entry))) ⌝ }
+{
+    ask_flat(*s, out)
+}
+
+fn message_flat(f: FlatState, out: &[u8]) -> FlatPart
     ensures { λ r. ⌜ r ≡ flatMessage f (now (out .entry)) ⌝ }
 {
     let known = state_kind(f.kind);
@@ -597,4 +609,12 @@ pub extern "C" fn eos_message(f: FlatState, out: &[u8]) -> FlatPart
         offset: 0,
         length: part.len(),
     }
+}
+
+// Where the message lies in the buffer, once all bytes are in.
+#[no_mangle]
+pub extern "C" fn eos_message(s: &FlatState, out: &[u8]) -> FlatPart
+    ensures { λ r. ⌜ r ≡ flatMessage (now (s .entry)) (now (out .entry)) ⌝ }
+{
+    message_flat(*s, out)
 }

@@ -100,9 +100,9 @@ const _: () = assert!(size_of::<State>() == 416 && size_of::<StateAnswer>() == 4
 extern "C" {
     pub fn eos_read_header(frame: *const u8, frame_len: usize) -> ReadAnswer;
     pub fn eos_payload(frame: *const u8, frame_len: usize) -> Part;
-    pub fn eos_write_header(f: Header, out: *mut u8, out_len: usize) -> WriteAnswer;
+    pub fn eos_write_header(h: *const Header, out: *mut u8, out_len: usize) -> WriteAnswer;
     pub fn eos_read_setup(bytes: *const u8, bytes_len: usize) -> SetupAnswer;
-    pub fn eos_write_setup(f: FlatSetup, out: *mut u8, out_len: usize) -> WriteAnswer;
+    pub fn eos_write_setup(x: FlatSetup, out: *mut u8, out_len: usize) -> WriteAnswer;
     pub fn eos_agree(client: FlatSetup, server: FlatSetup) -> Agreement;
     pub fn eos_grant(asked: u32, limit: u32) -> GrantAnswer;
     pub fn eos_error_reply(
@@ -115,12 +115,12 @@ extern "C" {
     ) -> WriteAnswer;
     pub fn eos_start(frame: *const u8, frame_len: usize, out: *mut u8, out_len: usize) -> StateAnswer;
     pub fn eos_take_piece(
-        f: State,
+        s: *mut State,
         piece: *const u8,
         piece_len: usize,
         out: *mut u8,
         out_len: usize,
-    ) -> StateAnswer;
-    pub fn eos_ask(f: State, out: *const u8, out_len: usize) -> u32;
-    pub fn eos_message(f: State, out: *const u8, out_len: usize) -> Part;
+    ) -> u32;
+    pub fn eos_ask(s: *const State, out: *const u8, out_len: usize) -> u32;
+    pub fn eos_message(s: *const State, out: *const u8, out_len: usize) -> Part;
 }

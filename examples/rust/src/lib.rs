@@ -121,7 +121,7 @@ impl Header {
 
     /// Writes the header to the front of a buffer; answers its length.
     pub fn write(&self, out: &mut [u8]) -> Result<usize, Refusal> {
-        let answer = unsafe { ffi::eos_write_header(self.flat(), out.as_mut_ptr(), out.len()) };
+        let answer = unsafe { ffi::eos_write_header(&self.flat(), out.as_mut_ptr(), out.len()) };
         done(answer.number, answer.length)
     }
 
@@ -260,23 +260,17 @@ impl<'a> Assembly<'a> {
 
     /// Takes the next pulled bytes, cut as they come. A refused piece changes nothing.
     pub fn take(&mut self, piece: &[u8]) -> Result<(), Refusal> {
-        let answer = unsafe {
-            ffi::eos_take_piece(
-                self.state,
-                piece.as_ptr(),
-                piece.len(),
-                self.out.as_mut_ptr(),
-                self.out.len(),
-            )
+        let out = &mut *self.out;
+        let number = unsafe {
+            ffi::eos_take_piece(&mut self.state, piece.as_ptr(), piece.len(), out.as_mut_ptr(), out.len())
         };
-        self.state = answer.state;
-        done(answer.number, ())
+        done(number, ())
     }
 
     /// The message, once all bytes are in.
     pub fn message(&self) -> Result<&[u8], Refusal> {
-        let number = unsafe { ffi::eos_ask(self.state, self.out.as_ptr(), self.out.len()) };
-        let part = unsafe { ffi::eos_message(self.state, self.out.as_ptr(), self.out.len()) };
+        let number = unsafe { ffi::eos_ask(&self.state, self.out.as_ptr(), self.out.len()) };
+        let part = unsafe { ffi::eos_message(&self.state, self.out.as_ptr(), self.out.len()) };
         done(number, &self.out[part.offset..][..part.length])
     }
 

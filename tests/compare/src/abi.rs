@@ -236,7 +236,7 @@ mod library {
     extern "C" {
         fn eos_read_header(frame: *const u8, frame_len: usize) -> ReadAnswer;
         fn eos_payload(frame: *const u8, frame_len: usize) -> Part;
-        fn eos_write_header(h: Flat, out: *mut u8, out_len: usize) -> WriteAnswer;
+        fn eos_write_header(header: *const Flat, out: *mut u8, out_len: usize) -> WriteAnswer;
         fn eos_read_setup(data: *const u8, data_len: usize) -> FlatSetupAnswer;
         fn eos_write_setup(setup: FlatSetup, out: *mut u8, out_len: usize) -> WriteAnswer;
         fn eos_agree(client: FlatSetup, server: FlatSetup) -> FlatAgreement;
@@ -251,14 +251,14 @@ mod library {
         ) -> WriteAnswer;
         fn eos_start(frame: *const u8, frame_len: usize, out: *mut u8, out_len: usize) -> FlatStateAnswer;
         fn eos_take_piece(
-            s: FlatState,
+            state: *mut FlatState,
             piece: *const u8,
             piece_len: usize,
             out: *mut u8,
             out_len: usize,
-        ) -> FlatStateAnswer;
-        fn eos_ask(s: FlatState, out: *const u8, out_len: usize) -> u32;
-        fn eos_message(s: FlatState, out: *const u8, out_len: usize) -> Part;
+        ) -> u32;
+        fn eos_ask(state: *const FlatState, out: *const u8, out_len: usize) -> u32;
+        fn eos_message(state: *const FlatState, out: *const u8, out_len: usize) -> Part;
     }
 
     pub struct Library;
@@ -277,7 +277,7 @@ mod library {
 
         #[inline(always)]
         fn write(&self, header: &Flat, out: &mut [u8]) -> WriteAnswer {
-            unsafe { eos_write_header(*header, out.as_mut_ptr(), out.len()) }
+            unsafe { eos_write_header(header, out.as_mut_ptr(), out.len()) }
         }
 
         #[inline(always)]
@@ -313,18 +313,18 @@ mod library {
         }
 
         #[inline(always)]
-        fn take_piece(&self, state: &FlatState, piece: &[u8], out: &mut [u8]) -> FlatStateAnswer {
-            unsafe { eos_take_piece(*state, piece.as_ptr(), piece.len(), out.as_mut_ptr(), out.len()) }
+        fn take_piece(&self, state: &mut FlatState, piece: &[u8], out: &mut [u8]) -> u32 {
+            unsafe { eos_take_piece(state, piece.as_ptr(), piece.len(), out.as_mut_ptr(), out.len()) }
         }
 
         #[inline(always)]
         fn ask(&self, state: &FlatState, out: &mut [u8]) -> u32 {
-            unsafe { eos_ask(*state, out.as_mut_ptr(), out.len()) }
+            unsafe { eos_ask(state, out.as_mut_ptr(), out.len()) }
         }
 
         #[inline(always)]
         fn message(&self, state: &FlatState, out: &mut [u8]) -> Part {
-            unsafe { eos_message(*state, out.as_mut_ptr(), out.len()) }
+            unsafe { eos_message(state, out.as_mut_ptr(), out.len()) }
         }
     }
 }

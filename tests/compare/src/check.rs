@@ -24,7 +24,7 @@ pub trait Port {
     fn grant(&self, asked: u32, limit: u32) -> FlatGrant;
     fn error_reply(&self, frame: &[u8], number: u32, limit: u32, out: &mut [u8]) -> WriteAnswer;
     fn start(&self, frame: &[u8], out: &mut [u8]) -> FlatStateAnswer;
-    fn take_piece(&self, state: &FlatState, piece: &[u8], out: &mut [u8]) -> FlatStateAnswer;
+    fn take_piece(&self, state: &mut FlatState, piece: &[u8], out: &mut [u8]) -> u32;
     // Lent for writing, so that a write shows as a difference.
     fn ask(&self, state: &FlatState, out: &mut [u8]) -> u32;
     fn message(&self, state: &FlatState, out: &mut [u8]) -> Part;

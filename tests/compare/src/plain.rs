@@ -189,8 +189,8 @@ impl Out<'_> {
 }
 
 #[inline(never)]
-pub fn plain_write(flat: Flat, out: &mut [u8]) -> (u32, usize) {
-    let need = match measure(&flat) {
+pub fn plain_write(flat: &Flat, out: &mut [u8]) -> (u32, usize) {
+    let need = match measure(flat) {
         Ok(need) if need <= out.len() => need,
         Ok(_) => return (16, 0),
         Err(number) => return (number, 0),
@@ -489,12 +489,8 @@ fn take(state: &mut FlatState, piece: &[u8], out: &mut [u8]) -> Result<(), u32> 
 }
 
 #[inline(never)]
-pub fn plain_take_piece(state: FlatState, piece: &[u8], out: &mut [u8]) -> FlatStateAnswer {
-    let mut answer = FlatStateAnswer { state, number: 0 };
-    if let Err(number) = take(&mut answer.state, piece, out) {
-        answer.number = number;
-    }
-    answer
+pub fn plain_take_piece(state: &mut FlatState, piece: &[u8], out: &mut [u8]) -> u32 {
+    take(state, piece, out).err().unwrap_or(0)
 }
 
 fn finished(state: &FlatState, room: usize) -> Result<usize, u32> {
@@ -528,7 +524,7 @@ impl Port for Plain {
     }
 
     fn write(&self, header: &Flat, out: &mut [u8]) -> WriteAnswer {
-        let (number, length) = plain_write(*header, out);
+        let (number, length) = plain_write(header, out);
         WriteAnswer { number, length }
     }
 
@@ -556,8 +552,8 @@ impl Port for Plain {
         plain_start(frame, out)
     }
 
-    fn take_piece(&self, state: &FlatState, piece: &[u8], out: &mut [u8]) -> FlatStateAnswer {
-        plain_take_piece(*state, piece, out)
+    fn take_piece(&self, state: &mut FlatState, piece: &[u8], out: &mut [u8]) -> u32 {
+        plain_take_piece(state, piece, out)
     }
 
     fn ask(&self, state: &FlatState, out: &mut [u8]) -> u32 {

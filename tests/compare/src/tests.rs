@@ -375,7 +375,7 @@ impl Port for Wrong {
         self.faulty_start(frame, out)
     }
 
-    fn take_piece(&self, state: &FlatState, piece: &[u8], out: &mut [u8]) -> FlatStateAnswer {
+    fn take_piece(&self, state: &mut FlatState, piece: &[u8], out: &mut [u8]) -> u32 {
         self.faulty_take_piece(state, piece, out)
     }
 

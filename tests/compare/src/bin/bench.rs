@@ -135,10 +135,10 @@ fn filling(chunks: usize) -> Filling {
     Filling { state: answer.state, pulled, out, runs }
 }
 
-fn fill_by(filling: &mut Filling, take: impl Fn(FlatState, &[u8], &mut [u8]) -> FlatState) {
+fn fill_by(filling: &mut Filling, take: impl Fn(&mut FlatState, &[u8], &mut [u8]) -> u32) {
     let mut state = filling.state;
     for piece in filling.pulled.chunks(PIECE) {
-        state = take(state, black_box(piece), black_box(&mut filling.out));
+        assert_eq!(take(&mut state, black_box(piece), black_box(&mut filling.out)), 0);
     }
     assert_eq!(state.taken, filling.pulled.len());
 }
@@ -156,30 +156,30 @@ const TAKEN: usize = 40_000;
 fn assembly_calls(call: &str, input: &mut Input, count: u64) {
     let Input { start, filling, piece, .. } = input;
     let Filling { state, pulled, out, .. } = filling;
-    let half = FlatState { taken: TAKEN, ..*state };
+    let mut half = FlatState { taken: TAKEN, ..*state };
     let whole = FlatState { taken: pulled.len(), ..*state };
     let piece = &pulled[TAKEN..TAKEN + *piece];
     let place = TAKEN..TAKEN + piece.len();
     match call {
         "lib-start" => repeat(count, || Library.start(black_box(start), black_box(out))),
         "plain-start" => repeat(count, || plain_start(black_box(start), black_box(out))),
-        "lib-take" => {
-            repeat(count, || Library.take_piece(black_box(&half), black_box(piece), black_box(out)))
-        }
-        "plain-take" => {
-            repeat(count, || plain_take_piece(*black_box(&half), black_box(piece), black_box(out)))
-        }
+        "lib-take" => repeat(count, || {
+            half.taken = TAKEN;
+            Library.take_piece(black_box(&mut half), black_box(piece), black_box(out))
+        }),
+        "plain-take" => repeat(count, || {
+            half.taken = TAKEN;
+            plain_take_piece(black_box(&mut half), black_box(piece), black_box(out))
+        }),
         "copy-take" => repeat(count, || black_box(&mut out[place.clone()]).copy_from_slice(black_box(piece))),
         "lib-ask" => repeat(count, || Library.ask(black_box(&whole), black_box(out))),
         "plain-ask" => repeat(count, || plain_ask(black_box(&whole), black_box(out))),
         "lib-message" => repeat(count, || Library.message(black_box(&whole), black_box(out))),
         "plain-message" => repeat(count, || plain_message(black_box(&whole), black_box(out))),
-        "lib-fill" => repeat(count, || {
-            fill_by(filling, |state, piece, out| Library.take_piece(&state, piece, out).state)
-        }),
-        "plain-fill" => {
-            repeat(count, || fill_by(filling, |state, piece, out| plain_take_piece(state, piece, out).state))
+        "lib-fill" => {
+            repeat(count, || fill_by(filling, |state, piece, out| Library.take_piece(state, piece, out)))
         }
+        "plain-fill" => repeat(count, || fill_by(filling, plain_take_piece)),
         "copy-fill" => repeat(count, || fill_by_copies(filling)),
         _ => panic!("call is a row's, behind lib-, plain- or copy-"),
     }
@@ -198,7 +198,7 @@ fn calls(call: &str, input: &mut Input, count: u64) {
         "lib-read" => repeat(count, || Library.read(black_box(frame))),
         "plain-read" => repeat(count, || plain_read_into(black_box(frame), black_box(&mut place))),
         "lib-write" => repeat(count, || Library.write(black_box(flat), black_box(&mut out))),
-        "plain-write" => repeat(count, || plain_write(*black_box(flat), black_box(&mut out))),
+        "plain-write" => repeat(count, || plain_write(black_box(flat), black_box(&mut out))),
         "lib-read-setup" => repeat(count, || Library.read_setup(black_box(&C10))),
         "plain-read-setup" => repeat(count, || plain_read_setup(black_box(&C10))),
         "lib-write-setup" => repeat(count, || Library.write_setup(black_box(CLIENT), black_box(&mut out))),

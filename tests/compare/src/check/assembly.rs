@@ -106,7 +106,8 @@ impl<P: Port> Checker<P> {
     ) -> Result<FlatStateAnswer, String> {
         let from = self.surround(piece);
         let lent_piece = &self.input[from..from + piece.len()];
-        let got = self.port.take_piece(state, lent_piece, &mut self.memory[lent.clone()]);
+        let mut got = FlatStateAnswer { state: *state, number: 0 };
+        got.number = self.port.take_piece(&mut got.state, lent_piece, &mut self.memory[lent.clone()]);
         self.seen.number(Call::Piece, got.number);
         // Only the count may change; unused places and all else stay as handed in.
         let mut right = FlatStateAnswer { state: *state, number: 0 };
@@ -217,10 +218,7 @@ impl<P: Port> Checker<P> {
         let mut answers = Vec::new();
         for step in steps {
             answers.push(match step {
-                Step::Piece(piece) => {
-                    last = self.port.take_piece(&last.state, piece, buffer);
-                    (last.number, Vec::new())
-                }
+                Step::Piece(piece) => (self.port.take_piece(&mut last.state, piece, buffer), Vec::new()),
                 Step::Ask => {
                     let number = self.port.ask(&last.state, buffer);
                     let part = self.port.message(&last.state, buffer);

@@ -407,18 +407,17 @@ impl Wrong {
         Ok(())
     }
 
-    pub fn faulty_take_piece(&self, state: &FlatState, piece: &[u8], out: &mut [u8]) -> FlatStateAnswer {
-        let mut state = *state;
-        let number = self.unless(ASKINGS).faulty_take(&mut state, piece, out).err().unwrap_or(0);
+    pub fn faulty_take_piece(&self, state: &mut FlatState, piece: &[u8], out: &mut [u8]) -> u32 {
+        let number = self.unless(ASKINGS).faulty_take(state, piece, out).err().unwrap_or(0);
         match number {
             17 if self.has(KindMended) => state.kind = state.kind.min(NOMSG),
-            17 if self.has(RefusedStateZeroed) => state = FlatState::ZERO,
+            17 if self.has(RefusedStateZeroed) => *state = FlatState::ZERO,
             18 if self.has(RefusedUnusedZeroed) => {
                 state.reads[state.read_count as usize..].fill(Default::default())
             }
             _ => {}
         }
-        FlatStateAnswer { state, number }
+        number
     }
 
     fn finished(&self, state: &FlatState, room: usize) -> Result<usize, u32> {

@@ -1,0 +1,43 @@
+-- `port::message_flat` meets its contract.
+use Rattle.port.specs.FlatState.{flatMessage}
+use borrow.Author.Needs.{needs}
+use Rattle.port.proofs.message_flat.Statement.{statement}
+use Rattle.port.proofs.message_flat.Tie as tie
+
+state-kind-requires : tie.Need-state-kind-requires
+state-kind-requires c κs = search needs
+
+enum-known-known : tie.Need-enum-known-known
+enum-known-known c = search needs
+
+enum-told : tie.Need-enum-told
+enum-told c = search needs
+
+returns : tie.Need-returns
+unfolding flatMessage
+returns c = simp (← (c .before .before .state-kind .ensures), c .enum-told .given .1)
+
+state-of-flat-requires : tie.Need-state-of-flat-requires
+state-of-flat-requires c κs = search needs
+
+message-requires : tie.Need-message-requires
+message-requires c κs = search needs
+
+returns-2 : tie.Need-returns-2
+unfolding flatMessage
+returns-2 c =
+    let made = c .before in
+    let told = made .before .before in
+    simp (← (told .before .before .state-kind .ensures), told .known .given .1, ← (made .state-of-flat .ensures), ← (c .message .ensures))
+
+pub message-flat-spec : {M : Type 1} → statement M
+message-flat-spec =
+    tie.close
+    (tie.spec
+    state-kind-requires
+    enum-known-known
+    enum-told
+    returns
+    state-of-flat-requires
+    message-requires
+    returns-2)
