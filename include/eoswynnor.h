@@ -21,9 +21,13 @@
  *     struct eos_state_answer a = eos_start(frame, frame_len, out, out_len);
  *     if (a.number != EOS_DONE) refuse: eos_error_reply(frame, frame_len, a.number, limit, reply, EOS_LONGEST_REPLY);
  *     for each piece pulled, in the order of a.state.reads:
- *         eos_take_piece(&a.state, piece, piece_len, out, out_len);    (a refused piece leaves a.state as it was)
+ *         if (eos_take_piece(&a.state, piece, piece_len, out, out_len) != EOS_DONE) it is more than is still to be pulled
  *     if (eos_ask(&a.state, out, out_len) == EOS_DONE)
  *         the message is the first eos_message(&a.state, out, out_len).length bytes of out
+ *
+ * Read segments with the same position are one chunk: their bytes joined, then zeros up to a multiple of 4. The base is the
+ * inline payload of MSG, or the chunk at position 0 of NOMSG. A position counts in the finished message, with the chunks
+ * before it and their padding; the base fills the places that the chunks leave.
  */
 #ifndef EOSWYNNOR_H
 #define EOSWYNNOR_H
@@ -61,15 +65,17 @@ enum eos_number {
     EOS_PROCEDURE_DONE = 4,      /* procedure is 3 */
     EOS_ENDS_INSIDE_FIELD = 5,   /* frame ends inside a field that must be there */
     EOS_BAD_MARKER = 6,          /* a marker word above 1 */
-    EOS_OVER_LIMIT = 7,          /* an entry or count that goes over a limit above */
+    EOS_OVER_LIMIT = 7,          /* an entry or count that goes over a limit above; in writing also segments in a reply
+                                    chunk that is not present */
     EOS_POSITION_FALLS = 8,      /* a read position below the one before it */
     EOS_POSITION_UNALIGNED = 9,  /* a read position that is no multiple of 4 */
     EOS_OTHER_ERROR_CODE = 10,   /* error code neither 1 nor 2 */
     EOS_BYTES_BEHIND = 11,       /* bytes behind a NOMSG or ERROR header */
     EOS_KIND_AND_LISTS = 12,     /* kind and lists do not fit: at a start an ERROR header, MSG with a segment at position 0
                                     or NOMSG with none there; in writing an ERROR header with an entry or reply chunk */
-    EOS_BASE_UNALIGNED = 13,     /* base length no multiple of 4 */
-    EOS_CHUNK_OVERLAPS = 14,     /* a chunk's position overlaps or lies past the base */
+    EOS_BASE_UNALIGNED = 13,     /* base length no multiple of 4, with chunks or without */
+    EOS_CHUNK_OVERLAPS = 14,     /* a chunk's position overlaps or lies past the base: inside the padded chunk before it, or
+                                    behind the base and all padded chunks before it together */
     EOS_MESSAGE_LONG = 15,       /* message above 1,048,576 bytes */
     EOS_BUFFER_SHORT = 16,       /* output buffer too short */
     EOS_STATE_UNFIT = 17,        /* state not one that can arise, or another buffer length than at the start */
@@ -112,7 +118,8 @@ struct eos_header {
     uint32_t reply_present;                        /* 0 or 1 */
     uint32_t reply_count;
     uint32_t kind;                                 /* enum eos_kind */
-    uint32_t low;                                  /* low and high of EOS_ERROR_VERSION, else 0 */
+    uint32_t low;                                  /* low and high of EOS_ERROR_VERSION; else 0 in a header that was
+                                                      read, ignored in one to be written */
     uint32_t high;
     uint32_t xid;
     uint32_t credit;
@@ -182,8 +189,8 @@ struct eos_read_answer eos_read_header(const uint8_t *frame, size_t frame_len);
 /* Where the inline payload of a frame lies; empty where eos_read_header refuses. */
 struct eos_part eos_payload(const uint8_t *frame, size_t frame_len);
 
-/* Writes a header to the front of a buffer; the payload is the caller's. Numbers 20, 12, 7, then entry by entry 9 and 8,
- * then 21, 16. */
+/* Writes a header to the front of a buffer; an inline payload is the caller's to put right behind it. A header of zeros is
+ * MSG with empty lists. Numbers 20, 12, 7, then entry by entry 9 and 8, then 21, 16. */
 struct eos_write_answer eos_write_header(const struct eos_header *h, uint8_t *out, size_t out_len);
 
 /* Reads setup data from the first 8 bytes. Where there is none, present is 0, the flag 0 and both sizes are 1,024.

@@ -1,4 +1,5 @@
-//! The calls of libeoswynnor.a for safe Rust: slices in, slices and `Result`s out.
+//! The calls of libeoswynnor.a for safe Rust: slices in, slices and `Result`s out. `Ok` is answer number 0; each call's
+//! other numbers, and the order of its checks, are those of the C header.
 //!
 //! Borrowing keeps what the C header asks of a caller: slices are valid and never null, lent slices do not overlap, and
 //! an [`Assembly`] holds its buffer and its state, so that nobody else changes either between two calls.
@@ -97,7 +98,7 @@ pub struct Header {
 }
 
 impl Header {
-    /// Reads the header of a frame.
+    /// Reads the header of a frame. Numbers 1 to 11.
     pub fn read(frame: &[u8]) -> Result<Header, Refusal> {
         let answer = unsafe { ffi::eos_read_header(frame.as_ptr(), frame.len()) };
         let flat = done(answer.number, answer.header)?;
@@ -119,7 +120,8 @@ impl Header {
         })
     }
 
-    /// Writes the header to the front of a buffer; answers its length.
+    /// Writes the header to the front of a buffer; answers its length. An inline payload goes right behind it. Numbers 12, 7, 9,
+    /// 8, 16.
     pub fn write(&self, out: &mut [u8]) -> Result<usize, Refusal> {
         let answer = unsafe { ffi::eos_write_header(&self.flat(), out.as_mut_ptr(), out.len()) };
         done(answer.number, answer.length)
@@ -237,7 +239,7 @@ pub struct Assembly<'a> {
 }
 
 impl<'a> Assembly<'a> {
-    /// Starts the reassembly of a call in a buffer that holds its message, or [`LONGEST_MESSAGE`] bytes.
+    /// Starts the reassembly of a call in a buffer that holds its message, or [`LONGEST_MESSAGE`] bytes. Numbers 1 to 16.
     pub fn start(frame: &[u8], out: &'a mut [u8]) -> Result<Assembly<'a>, Refusal> {
         let answer = unsafe { ffi::eos_start(frame.as_ptr(), frame.len(), out.as_mut_ptr(), out.len()) };
         done(answer.number, Assembly { state: answer.state, out })
@@ -258,7 +260,7 @@ impl<'a> Assembly<'a> {
         self.reads().iter().map(|read| read.target.length as usize).sum::<usize>() - self.state.taken
     }
 
-    /// Takes the next pulled bytes, cut as they come. A refused piece changes nothing.
+    /// Takes the next pulled bytes, cut as they come. A refused piece changes nothing. Number 18.
     pub fn take(&mut self, piece: &[u8]) -> Result<(), Refusal> {
         let out = &mut *self.out;
         let number = unsafe {
@@ -267,7 +269,7 @@ impl<'a> Assembly<'a> {
         done(number, ())
     }
 
-    /// The message, once all bytes are in.
+    /// The message, once all bytes are in. Number 19.
     pub fn message(&self) -> Result<&[u8], Refusal> {
         let number = unsafe { ffi::eos_ask(&self.state, self.out.as_ptr(), self.out.len()) };
         let part = unsafe { ffi::eos_message(&self.state, self.out.as_ptr(), self.out.len()) };
