@@ -213,15 +213,31 @@ fn fill_flat(s: &[u8], shape: Shape) -> FlatHeader
     let m = shape.replies;
     let w = header::EMPTY_READS_BYTES + n * lists::MARKED_ENTRY_BYTES;
     let p = shape.end - m * wire::SEGMENT_BYTES;
-    let empty = empty_flat(
-        kind,
-        wire::word_at(s, header::XID_AT),
-        wire::word_at(s, header::CREDIT_AT),
-        shape.present,
-        n as u32,
-        chunks as u32,
-        m as u32,
-    );
+    let z = Segment {
+        handle: 0,
+        length: 0,
+        offset: 0,
+    };
+    let r = ReadSegment {
+        position: 0,
+        target: z,
+    };
+    // Made here and not by a call, which would copy it.
+    let empty = FlatHeader {
+        reads: [r; 16],
+        writes: [z; 16],
+        reply: [z; 16],
+        write_counts: [0u32; 4],
+        read_count: n as u32,
+        write_chunks: chunks as u32,
+        reply_present: flag_number(shape.present),
+        reply_count: m as u32,
+        kind: kind_number(kind),
+        low: low_of(kind),
+        high: high_of(kind),
+        xid: wire::word_at(s, header::XID_AT),
+        credit: wire::word_at(s, header::CREDIT_AT),
+    };
     with_reply(
         &s[p..],
         m,
