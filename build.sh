@@ -3,10 +3,18 @@
 set -euo pipefail
 top=$(CDPATH='' cd -- "$(dirname -- "${BASH_SOURCE[0]}")" && pwd)
 folder=${1:-$top/target/install}
+exports=(c_header c_setup c_reply c_assembly)
 
-(cd -- "$top" && rt staticlib port | tail -n 1)
+# Each crate of exports is one object; the archive holds them all.
+objects=$(mktemp -d)
+trap 'rm -rf -- "$objects"' EXIT
+for crate in "${exports[@]}"; do
+    (cd -- "$top" && rt staticlib "$crate" | tail -n 1)
+    (cd -- "$objects" && ar x "$top/target/staticlib/lib$crate.a")
+done
 mkdir -p -- "$folder/lib/pkgconfig" "$folder/include"
-install -m 644 -- "$top/target/staticlib/libport.a" "$folder/lib/libeoswynnor.a"
+rm -f -- "$folder/lib/libeoswynnor.a"
+ar rcs "$folder/lib/libeoswynnor.a" "$objects"/*.o
 install -m 644 -- "$top/include/eoswynnor.h" "$folder/include/eoswynnor.h"
 cat >"$folder/lib/pkgconfig/eoswynnor.pc" <<'PC'
 prefix=${pcfiledir}/../..

@@ -6,24 +6,27 @@
  * What a caller has to keep to:
  * - A buffer is lent for the call alone, as pointer and length. The pointer is valid for that many bytes and never
  *   null: for length 0 any pointer that is not null will do. A length is at most PTRDIFF_MAX.
- * - A struct is lent by pointer where a call reads or changes the caller's own: never null, and aligned as C has it.
- * - What is lent to one call (frame and out, state, piece and out) does not overlap, and nobody else writes it meanwhile.
+ * - A struct or number is lent by pointer: never null, and aligned as C has it.
+ * - What a call may change (out, a struct or number to be stored) overlaps nothing else that is lent to the same call, and
+ *   nobody else writes what is lent meanwhile. Things that are only read may be the same.
  * - The state of a reassembly is handed on: each call gets it as the last one left it, and the same buffer, with nothing
  *   in it changed. Another length of the buffer is refused; other contents cannot be noticed.
- * - Structs have holes whose bytes mean nothing: compare them field by field, never with memcmp.
  *
- * For the rest any bytes, header, state and number may be handed in. A call answers a number, 0 when done. A refused call
- * changes no byte that was lent, nor the state, and hands back all else as 0; a refused start, which got no state, hands
- * back one of zeros.
+ * For the rest any bytes, header, state and number may be handed in. A call answers a number, 0 when done, and stores what
+ * it makes where the caller says. A refused call changes nothing that was lent: no byte, no struct, no number. No struct
+ * has holes. A reserved word is zero in what a call makes and ignored in what it is given.
  *
  * The way of a call:
  *
- *     struct eos_state_answer a = eos_start(frame, frame_len, out, out_len);
- *     if (a.number != EOS_DONE) refuse: eos_error_reply(frame, frame_len, a.number, limit, reply, EOS_LONGEST_REPLY);
- *     for each piece pulled, in the order of a.state.reads:
- *         if (eos_take_piece(&a.state, piece, piece_len, out, out_len) != EOS_DONE) it is more than is still to be pulled
- *     if (eos_ask(&a.state, out, out_len) == EOS_DONE)
- *         the message is the first eos_message(&a.state, out, out_len).length bytes of out
+ *     struct eos_state state;
+ *     size_t length;
+ *     uint32_t number = eos_start(frame, frame_len, out, out_len, &state);
+ *     if (number != EOS_DONE) refuse: eos_error_reply(frame, frame_len, number, limit, reply, EOS_LONGEST_REPLY, &length);
+ *     for each piece pulled, in the order of state.reads:
+ *         if (eos_take_piece(&state, piece, piece_len, out, out_len) != EOS_DONE) it was more than is still to be pulled
+ *             (EOS_PIECE_LONG), or the state or the buffer's length was changed; nothing is, so another piece may come
+ *     if (eos_message(&state, out, out_len, &length) == EOS_DONE)
+ *         the message is the first length bytes of out
  *
  * Read segments with the same position are one chunk: their bytes joined, then zeros up to a multiple of 4. The base is the
  * inline payload of MSG, or the chunk at position 0 of NOMSG. A position counts in the finished message, with the chunks
@@ -104,6 +107,7 @@ struct eos_segment {
 /* A segment to be pulled, and where in the message its bytes go. */
 struct eos_read_segment {
     uint32_t position;
+    uint32_t reserved;
     struct eos_segment target;
 };
 
@@ -123,17 +127,7 @@ struct eos_header {
     uint32_t high;
     uint32_t xid;
     uint32_t credit;
-};
-
-struct eos_read_answer {
-    struct eos_header header;
-    uint32_t number;
-};
-
-/* What a writer answers: its number, and how many bytes it wrote. Bytes behind them are kept. */
-struct eos_write_answer {
-    uint32_t number;
-    size_t length;
+    uint32_t reserved;
 };
 
 /* A part of a lent buffer; an empty one is 0, 0. */
@@ -149,22 +143,10 @@ struct eos_setup {
     uint32_t receive;
 };
 
-struct eos_setup_answer {
-    struct eos_setup setup;
-    uint32_t present;             /* 0 or 1 */
-    uint32_t number;
-};
-
 struct eos_agreement {
     uint32_t client_to_server;    /* inline size of this direction, in bytes */
     uint32_t server_to_client;
     uint32_t remote_invalidation; /* 0 or 1 */
-    uint32_t number;
-};
-
-struct eos_grant_answer {
-    uint32_t credit;
-    uint32_t number;
 };
 
 /* The state of a reassembly. Pull reads[0] to reads[read_count - 1], in this order, target.length bytes of each and no
@@ -178,56 +160,51 @@ struct eos_state {
     uint32_t kind;                /* EOS_MSG or EOS_NOMSG */
 };
 
-struct eos_state_answer {
-    struct eos_state state;
-    uint32_t number;
-};
-
 /* Reads the header of a frame. Numbers 1 to 4, then 5 to 10 from left to right, then 11. */
-struct eos_read_answer eos_read_header(const uint8_t *frame, size_t frame_len);
+uint32_t eos_read_header(const uint8_t *frame, size_t frame_len, struct eos_header *header);
 
 /* Where the inline payload of a frame lies; empty where eos_read_header refuses. */
 struct eos_part eos_payload(const uint8_t *frame, size_t frame_len);
 
-/* Writes a header to the front of a buffer; an inline payload is the caller's to put right behind it. A header of zeros is
- * MSG with empty lists. Numbers 20, 12, 7, then entry by entry 9 and 8, then 21, 16. */
-struct eos_write_answer eos_write_header(const struct eos_header *h, uint8_t *out, size_t out_len);
+/* Writes a header to the front of a buffer and stores how many bytes it has; an inline payload is the caller's to put right
+ * behind it. As with every writer, the bytes behind are kept. A header of zeros is MSG with empty lists. Numbers 20, 12, 7,
+ * then entry by entry 9 and 8, then 21, 16. */
+uint32_t eos_write_header(const struct eos_header *header, uint8_t *out, size_t out_len, size_t *length);
 
-/* Reads setup data from the first 8 bytes. Where there is none, present is 0, the flag 0 and both sizes are 1,024.
- * Always number 0. */
-struct eos_setup_answer eos_read_setup(const uint8_t *bytes, size_t bytes_len);
+/* Reads setup data from the first 8 bytes, and whether there is any (present is 1). Where there is none, present is 0, the
+ * flag 0 and both sizes are 1,024. Always number 0. */
+uint32_t eos_read_setup(const uint8_t *bytes, size_t bytes_len, struct eos_setup *setup, uint32_t *present);
 
 /* Writes the 8 bytes of setup data to the front of a buffer. Numbers 20, 16. */
-struct eos_write_answer eos_write_setup(struct eos_setup x, uint8_t *out, size_t out_len);
+uint32_t eos_write_setup(const struct eos_setup *setup, uint8_t *out, size_t out_len, size_t *length);
 
 /* The inline size of each direction, and whether remote invalidation may be used. Number 20. */
-struct eos_agreement eos_agree(struct eos_setup client, struct eos_setup server);
+uint32_t eos_agree(const struct eos_setup *client, const struct eos_setup *server, struct eos_agreement *agreement);
 
-/* The credits to grant: the smaller of asked and limit, but at least 1. Number 20. */
-struct eos_grant_answer eos_grant(uint32_t asked, uint32_t limit);
+/* The credits to grant to one who asks for so many in the credit word of its header: the smaller of asked and limit, but at
+ * least 1. Number 20. */
+uint32_t eos_grant(uint32_t asked, uint32_t limit, uint32_t *credit);
 
 /* Writes the reply to a frame that was answered with a number, which is the caller's to hand in as it was given: 2 gets
  * a version error (28 bytes), 3, 5 to 9 and 11 to 15 a chunk error (20 bytes), the others none. A frame under 16 bytes
  * or with an ERROR header gets none. Where there is none the number is 0 and the length 0: send nothing. The reply
  * carries the frame's xid and the grant for its credit word under limit, our credit limit. Numbers 20, then 16. */
-struct eos_write_answer eos_error_reply(const uint8_t *frame, size_t frame_len, uint32_t number, uint32_t limit,
-                                        uint8_t *out, size_t out_len);
+uint32_t eos_error_reply(const uint8_t *frame, size_t frame_len, uint32_t number, uint32_t limit, uint8_t *out,
+                         size_t out_len, size_t *length);
 
 /* Starts the reassembly of a call: reads the frame, writes its inline bytes and all padding to their places in the
- * buffer. The message has as many bytes as the inline payload and the segments at position 0 together, and for each other
- * position the bytes of its segments, rounded up together to a multiple of 4; the buffer may be longer. The frame is not
- * needed again. Numbers as for eos_read_header, then 12 to 16. */
-struct eos_state_answer eos_start(const uint8_t *frame, size_t frame_len, uint8_t *out, size_t out_len);
+ * buffer, and stores the state. The message has as many bytes as the inline payload and the segments at position 0
+ * together, and for each other position the bytes of its segments, rounded up together to a multiple of 4; the buffer may
+ * be longer. Places of bytes still to be pulled and bytes behind the message keep what they held. The frame is not needed
+ * again. Numbers as for eos_read_header, then 12 to 16. */
+uint32_t eos_start(const uint8_t *frame, size_t frame_len, uint8_t *out, size_t out_len, struct eos_state *state);
 
 /* Takes the next pulled bytes, cut as they come: the bytes of reads[0], then those of reads[1] and so on; an empty piece
  * at any time. Of the state, which is changed where it lies, only taken changes. Numbers 17, 18. */
-uint32_t eos_take_piece(struct eos_state *s, const uint8_t *piece, size_t piece_len, uint8_t *out, size_t out_len);
+uint32_t eos_take_piece(struct eos_state *state, const uint8_t *piece, size_t piece_len, uint8_t *out, size_t out_len);
 
-/* Whether all bytes are in. Numbers 17, 19. */
-uint32_t eos_ask(const struct eos_state *s, const uint8_t *out, size_t out_len);
-
-/* Where the message lies: the first part of the buffer; empty where eos_ask refuses. */
-struct eos_part eos_message(const struct eos_state *s, const uint8_t *out, size_t out_len);
+/* Asks for the message, once all bytes are in: it is the first length bytes of the buffer. Numbers 17, 19. */
+uint32_t eos_message(const struct eos_state *state, const uint8_t *out, size_t out_len, size_t *length);
 
 #ifdef __cplusplus
 }

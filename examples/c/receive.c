@@ -29,76 +29,78 @@ static void rdma_read(struct eos_segment from, size_t done, uint8_t *into, size_
     memcpy(into, client_memory + from.offset + done, length);
 }
 
-/* Reassembles a call in out. Answers 0 and where the message lies, or the number of the refusal. */
-static uint32_t receive(const uint8_t *frame, size_t frame_len, uint8_t *out, size_t out_len, struct eos_part *message)
+/* Reassembles a call in out. Answers 0 and how long the message is, or the number of the refusal. */
+static uint32_t receive(const uint8_t *frame, size_t frame_len, uint8_t *out, size_t out_len, size_t *message_len)
 {
-    struct eos_state_answer a = eos_start(frame, frame_len, out, out_len);
-    struct eos_state *s = &a.state;
-    if (a.number != EOS_DONE)
-        return a.number;
-    for (uint32_t i = 0; i < s->read_count; i++) {
-        struct eos_segment from = s->reads[i].target;
+    struct eos_state s;
+    uint32_t number = eos_start(frame, frame_len, out, out_len, &s);
+    if (number != EOS_DONE)
+        return number;
+    for (uint32_t i = 0; i < s.read_count; i++) {
+        struct eos_segment from = s.reads[i].target;
         for (size_t done = 0; done < from.length;) {
             uint8_t piece[PIECE];
             size_t length = from.length - done < PIECE ? from.length - done : PIECE;
             rdma_read(from, done, piece, length);
-            uint32_t number = eos_take_piece(s, piece, length, out, out_len);
+            number = eos_take_piece(&s, piece, length, out, out_len);
             if (number != EOS_DONE)
                 return number;
             done += length;
         }
     }
-    *message = eos_message(s, out, out_len);
-    return eos_ask(s, out, out_len);
+    return eos_message(&s, out, out_len, message_len);
 }
 
 /* Serves one frame: hands the message to the RPC layer, or sends the error reply. Here both are printed. */
 static void serve(const char *name, const uint8_t *frame, size_t frame_len)
 {
     static uint8_t out[EOS_LONGEST_MESSAGE];
-    struct eos_part message;
-    uint32_t number = receive(frame, frame_len, out, sizeof out, &message);
+    size_t length;
+    uint32_t number = receive(frame, frame_len, out, sizeof out, &length);
 
     printf("%s %" PRIu32, name, number);
     if (number == EOS_DONE) {
-        print_bytes("message", out + message.offset, message.length);
+        print_bytes("message", out, length);
     } else {
         uint8_t reply[EOS_LONGEST_REPLY];
-        struct eos_write_answer w = eos_error_reply(frame, frame_len, number, CREDIT_LIMIT, reply, sizeof reply);
-        print_bytes("reply", reply, w.length);
+        if (eos_error_reply(frame, frame_len, number, CREDIT_LIMIT, reply, sizeof reply, &length) == EOS_DONE)
+            print_bytes("reply", reply, length);
     }
 }
 
 static void print_header(const char *name, const uint8_t *frame, size_t frame_len)
 {
-    struct eos_read_answer r = eos_read_header(frame, frame_len);
+    struct eos_header h = {0};
+    uint32_t number = eos_read_header(frame, frame_len, &h);
     struct eos_part payload = eos_payload(frame, frame_len);
 
-    printf("%s header %" PRIu32 " kind %" PRIu32 " xid %" PRIx32 " credit %" PRIu32, name, r.number, r.header.kind,
-           r.header.xid, r.header.credit);
-    for (uint32_t i = 0; i < r.header.read_count; i++)
-        printf(" read %" PRIu32 " at %" PRIu32, r.header.reads[i].target.length, r.header.reads[i].position);
+    printf("%s header %" PRIu32 " kind %" PRIu32 " xid %" PRIx32 " credit %" PRIu32, name, number, h.kind, h.xid,
+           h.credit);
+    for (uint32_t i = 0; i < h.read_count; i++)
+        printf(" read %" PRIu32 " at %" PRIu32, h.reads[i].target.length, h.reads[i].position);
     print_bytes("payload", frame + payload.offset, payload.length);
 }
 
 /* At connect time: the client's setup data as it came, and ours. */
 static void connect_with(const uint8_t *private_data, size_t length)
 {
-    struct eos_setup ours = {1, 4096, 2048};
-    struct eos_setup_answer theirs = eos_read_setup(private_data, length);
-    struct eos_agreement a = eos_agree(theirs.setup, ours);
+    struct eos_setup ours = {1, 4096, 2048}, theirs;
+    struct eos_agreement a = {0, 0, 0};
+    uint32_t present;
+    eos_read_setup(private_data, length, &theirs, &present);
+    uint32_t number = eos_agree(&theirs, &ours, &a);
 
-    printf("setup %" PRIu32 " R %" PRIu32 " send %" PRIu32 " receive %" PRIu32 "\n", theirs.present,
-           theirs.setup.remote_invalidation, theirs.setup.send, theirs.setup.receive);
-    printf("agreed %" PRIu32 " to server %" PRIu32 " to client %" PRIu32 " R %" PRIu32 "\n", a.number,
-           a.client_to_server, a.server_to_client, a.remote_invalidation);
+    printf("setup %" PRIu32 " R %" PRIu32 " send %" PRIu32 " receive %" PRIu32 "\n", present, theirs.remote_invalidation,
+           theirs.send, theirs.receive);
+    printf("agreed %" PRIu32 " to server %" PRIu32 " to client %" PRIu32 " R %" PRIu32 "\n", number, a.client_to_server,
+           a.server_to_client, a.remote_invalidation);
 }
 
 /* ---- The client's frames ---- */
 
 static struct eos_read_segment at(uint32_t position, uint32_t length, uint64_t offset)
 {
-    struct eos_read_segment r = {position, {7, length, offset}};
+    struct eos_read_segment r = {position, 0, {7, length, offset}};
     return r;
 }
 
@@ -113,11 +115,11 @@ static size_t call(uint32_t kind, const struct eos_read_segment *reads, uint32_t
     h.read_count = count;
     memcpy(h.reads, reads, count * sizeof *reads);
 
-    struct eos_write_answer w = eos_write_header(&h, frame, room);
-    if (w.number != EOS_DONE || inline_len > room - w.length)
+    size_t length;
+    if (eos_write_header(&h, frame, room, &length) != EOS_DONE || inline_len > room - length)
         return 0;
-    memcpy(frame + w.length, client_memory, inline_len);
-    return w.length + inline_len;
+    memcpy(frame + length, client_memory, inline_len);
+    return length + inline_len;
 }
 
 int main(void)
@@ -147,7 +149,9 @@ int main(void)
     frame[7] = 2;
     serve("C3", frame, length);
 
-    printf("grant %" PRIu32, eos_grant(0, CREDIT_LIMIT).credit);
-    printf(" %" PRIu32 "\n", eos_grant(100, CREDIT_LIMIT).credit);
+    uint32_t few, many;
+    if (eos_grant(0, CREDIT_LIMIT, &few) != EOS_DONE || eos_grant(100, CREDIT_LIMIT, &many) != EOS_DONE)
+        return 1;
+    printf("grant %" PRIu32 " %" PRIu32 "\n", few, many);
     return 0;
 }

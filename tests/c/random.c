@@ -140,37 +140,68 @@ static void answered(uint32_t number, uint32_t numbers)
     seen |= BIT(number);
 }
 
-static int same_segments(const struct eos_segment *a, const struct eos_segment *b, size_t count)
+static void noise(void *bytes, size_t length)
 {
-    return memcmp(a, b, count * sizeof *a) == 0; /* no holes */
+    for (size_t i = 0; i < length; i++)
+        ((uint8_t *)bytes)[i] = (uint8_t)any();
 }
 
-static int same_reads(const struct eos_read_segment *a, const struct eos_read_segment *b)
-{
-    for (size_t i = 0; i < EOS_READ_SEGMENTS; i++)
-        if (a[i].position != b[i].position || !same_segments(&a[i].target, &b[i].target, 1))
-            return 0;
-    return 1;
-}
-
+/* No struct has holes. */
 static int same_header(const struct eos_header *a, const struct eos_header *b)
 {
-    return same_reads(a->reads, b->reads) && same_segments(a->writes, b->writes, EOS_WRITE_SEGMENTS) &&
-           same_segments(a->reply, b->reply, EOS_REPLY_SEGMENTS) &&
-           memcmp(a->write_counts, b->write_counts, sizeof a->write_counts) == 0 && a->read_count == b->read_count &&
-           a->write_chunks == b->write_chunks && a->reply_present == b->reply_present &&
-           a->reply_count == b->reply_count && a->kind == b->kind && a->low == b->low && a->high == b->high &&
-           a->xid == b->xid && a->credit == b->credit;
+    return memcmp(a, b, sizeof *a) == 0;
 }
 
 static int same_state(const struct eos_state *a, const struct eos_state *b)
 {
-    return same_reads(a->reads, b->reads) && a->base == b->base && a->buffer == b->buffer && a->taken == b->taken &&
-           a->read_count == b->read_count && a->kind == b->kind;
+    return memcmp(a, b, sizeof *a) == 0;
 }
 
-static const struct eos_header no_header;
-static const struct eos_state no_state;
+/* ---- The calls that store what they make: over noise, which a refusal leaves ---- */
+
+static uint32_t read_header(struct lent frame, struct eos_header *h)
+{
+    struct eos_header was;
+    noise(h, sizeof *h);
+    was = *h;
+    uint32_t number = eos_read_header(frame.bytes, frame.length, h);
+    answered(number, READ_NUMBERS);
+    CHECK(number == EOS_DONE || same_header(h, &was));
+    return number;
+}
+
+static uint32_t start(struct lent frame, struct lent out, struct eos_state *s)
+{
+    struct eos_state was;
+    noise(s, sizeof *s);
+    was = *s;
+    uint32_t number = eos_start(frame.bytes, frame.length, out.bytes, out.length, s);
+    answered(number, START_NUMBERS);
+    CHECK(number == EOS_DONE || same_state(s, &was));
+    return number;
+}
+
+/* How many bytes a writer wrote, or the message has; 0 where the call refused. */
+static size_t stored(uint32_t number, uint32_t numbers, size_t was, size_t length)
+{
+    answered(number, numbers);
+    CHECK(number == EOS_DONE || length == was);
+    return number == EOS_DONE ? length : 0;
+}
+
+static size_t write_header(const struct eos_header *h, struct lent out, uint32_t *number)
+{
+    size_t was = (size_t)any(), length = was;
+    *number = eos_write_header(h, out.bytes, out.length, &length);
+    return stored(*number, WRITE_NUMBERS, was, length);
+}
+
+static size_t message(const struct eos_state *s, struct lent out, uint32_t *number)
+{
+    size_t was = (size_t)any(), length = was;
+    *number = eos_message(s, out.bytes, out.length, &length);
+    return stored(*number, ASK_NUMBERS, was, length);
+}
 
 /* ---- Inputs ---- */
 
@@ -179,7 +210,7 @@ static void add_chunk(struct eos_header *h, uint32_t position, uint32_t length)
 {
     for (uint32_t more = below(3);; more--) {
         uint32_t part = more ? below(length + 1) : length;
-        struct eos_read_segment r = {position, {(uint32_t)any(), part, any()}};
+        struct eos_read_segment r = {position, 0, {(uint32_t)any(), part, any()}};
         h->reads[h->read_count++] = r;
         length -= part;
         if (more == 0)
@@ -269,13 +300,13 @@ static struct lent some_frame(void)
     uint32_t base = 4 * below(12);
     struct eos_header h = some_header(base);
     uint8_t written[EOS_LONGEST_HEADER];
-    struct eos_write_answer w = eos_write_header(&h, written, sizeof written);
-    CHECK(w.number == EOS_DONE && w.length <= sizeof written);
+    size_t header_length;
+    CHECK(eos_write_header(&h, written, sizeof written, &header_length) == EOS_DONE && header_length <= sizeof written);
     size_t behind = h.kind == EOS_MSG ? base : 0;
-    size_t length = below(8) ? w.length + behind : below(100);
+    size_t length = below(8) ? header_length + behind : below(100);
     struct lent frame = lend(length);
     if (below(8))
-        memcpy(frame.bytes, written, smaller(length, w.length));
+        memcpy(frame.bytes, written, smaller(length, header_length));
     if (below(2) && length > 0) {
         struct lent whole = frame;
         switch (below(4)) {
@@ -318,40 +349,40 @@ static void write_one(const struct eos_header *h)
 {
     struct lent out = lend(below(2) ? EOS_LONGEST_HEADER : below(EOS_LONGEST_HEADER));
     struct lent was = copy_of(out.bytes, out.length);
-    struct eos_write_answer w = eos_write_header(h, out.bytes, out.length);
-    answered(w.number, WRITE_NUMBERS);
-    CHECK(w.length <= out.length && same_behind(out, was, w.length));
-    CHECK((w.number == EOS_DONE) == (w.length > 0));
-    if (w.number == EOS_DONE)
-        CHECK(eos_read_header(out.bytes, w.length).number == EOS_DONE);
+    struct eos_header back;
+    uint32_t number;
+    size_t length = write_header(h, out, &number);
+    CHECK(length <= out.length && same_behind(out, was, length));
+    CHECK((number == EOS_DONE) == (length > 0));
+    if (number == EOS_DONE)
+        CHECK(eos_read_header(out.bytes, length, &back) == EOS_DONE);
     give_back(was);
     give_back(out);
 }
 
 /* Reads a frame; what was read, written again, gives its bytes before the payload. */
-static struct eos_read_answer read_one(struct lent frame, struct eos_part *part)
+static uint32_t read_one(struct lent frame, struct eos_header *h, struct eos_part *part)
 {
-    struct eos_read_answer r = eos_read_header(frame.bytes, frame.length);
+    uint32_t number = read_header(frame, h);
     *part = eos_payload(frame.bytes, frame.length);
-    answered(r.number, READ_NUMBERS);
     CHECK(part->length <= frame.length && part->offset <= frame.length - part->length);
-    if (r.number != EOS_DONE) {
-        CHECK(same_header(&r.header, &no_header) && part->offset == 0 && part->length == 0);
-        return r;
+    if (number != EOS_DONE) {
+        CHECK(part->offset == 0 && part->length == 0);
+        return number;
     }
-    CHECK(r.header.read_count <= EOS_READ_SEGMENTS && r.header.write_chunks <= EOS_WRITE_CHUNKS);
-    CHECK(r.header.reply_present <= 1 && r.header.reply_count <= EOS_REPLY_SEGMENTS);
-    CHECK(r.header.kind == EOS_MSG || (r.header.kind <= EOS_ERROR_CHUNK && part->length == 0));
-    struct lent out = lend(frame.length - part->length);
+    CHECK(h->read_count <= EOS_READ_SEGMENTS && h->write_chunks <= EOS_WRITE_CHUNKS);
+    CHECK(h->reply_present <= 1 && h->reply_count <= EOS_REPLY_SEGMENTS);
+    CHECK(h->kind == EOS_MSG || (h->kind <= EOS_ERROR_CHUNK && part->length == 0));
+    struct lent out = lend(frame.length - part->length), shorter = out;
     struct lent was = copy_of(out.bytes, out.length);
-    struct eos_write_answer w = eos_write_header(&r.header, out.bytes, out.length - 1);
-    answered(w.number, BIT(EOS_BUFFER_SHORT));
-    CHECK(w.length == 0 && same_bytes(out, was));
-    w = eos_write_header(&r.header, out.bytes, out.length);
-    CHECK(w.number == EOS_DONE && w.length == out.length && memcmp(out.bytes, frame.bytes, w.length) == 0);
+    uint32_t written;
+    shorter.length--;
+    CHECK(write_header(h, shorter, &written) == 0 && written == EOS_BUFFER_SHORT && same_bytes(out, was));
+    CHECK(write_header(h, out, &written) == out.length && written == EOS_DONE);
+    CHECK(memcmp(out.bytes, frame.bytes, out.length) == 0);
     give_back(was);
     give_back(out);
-    return r;
+    return number;
 }
 
 static void reply_one(struct lent frame, uint32_t number)
@@ -359,14 +390,15 @@ static void reply_one(struct lent frame, uint32_t number)
     uint32_t limit = edge();
     struct lent out = lend(below(EOS_LONGEST_REPLY + 8));
     struct lent was = copy_of(out.bytes, out.length);
-    struct eos_write_answer w = eos_error_reply(frame.bytes, frame.length, number, limit, out.bytes, out.length);
-    answered(w.number, ROOM_NUMBERS);
-    CHECK(w.length <= out.length && same_behind(out, was, w.length));
-    CHECK(w.length == 0 || w.length == 20 || w.length == EOS_LONGEST_REPLY);
-    if (w.length > 0) {
-        struct eos_header h = eos_read_header(out.bytes, w.length).header;
-        CHECK(w.number == EOS_DONE && memcmp(out.bytes, frame.bytes, 4) == 0);
-        CHECK(h.kind == (w.length == 20 ? EOS_ERROR_CHUNK : EOS_ERROR_VERSION));
+    size_t before = (size_t)any(), length = before;
+    uint32_t done = eos_error_reply(frame.bytes, frame.length, number, limit, out.bytes, out.length, &length);
+    length = stored(done, ROOM_NUMBERS, before, length);
+    CHECK(length <= out.length && same_behind(out, was, length));
+    CHECK(length == 0 || length == 20 || length == EOS_LONGEST_REPLY);
+    if (length > 0) {
+        struct eos_header h;
+        CHECK(eos_read_header(out.bytes, length, &h) == EOS_DONE && memcmp(out.bytes, frame.bytes, 4) == 0);
+        CHECK(h.kind == (length == 20 ? EOS_ERROR_CHUNK : EOS_ERROR_VERSION));
         CHECK(1 <= h.credit && h.credit <= limit);
     }
     give_back(was);
@@ -387,9 +419,7 @@ static void take_damaged(struct eos_state s, struct lent buffer)
     else
         CHECK(same_bytes(out, buffer));
     CHECK(same_state(&s, &was));
-    struct eos_part part = eos_message(&s, out.bytes, out.length);
-    answered(eos_ask(&s, out.bytes, out.length), ASK_NUMBERS);
-    CHECK(part.offset == 0 && part.length <= out.length);
+    CHECK(message(&s, out, &number) <= out.length);
     CHECK(same_state(&s, &was));
     give_back(piece);
     give_back(out);
@@ -403,6 +433,7 @@ static void take_all(struct eos_state *s, struct lent pulled, struct lent out)
         struct lent before = copy_of(out.bytes, out.length);
         size_t rest = pulled.length - s->taken;
         struct lent piece, other;
+        uint32_t number;
         switch (below(6)) {
         case 0: /* too long */
             piece = lend(rest + 1 + below(8));
@@ -413,14 +444,14 @@ static void take_all(struct eos_state *s, struct lent pulled, struct lent out)
             piece = lend(below(3));
             other = lend(out.length + 1);
             answered(eos_take_piece(s, piece.bytes, piece.length, other.bytes, other.length), BIT(EOS_STATE_UNFIT));
-            CHECK(eos_ask(s, other.bytes, other.length) == EOS_STATE_UNFIT);
+            CHECK(message(s, other, &number) == 0 && number == EOS_STATE_UNFIT);
             CHECK(same_state(s, &was));
             give_back(other);
             break;
         case 2: /* asking */
             piece = lend(0);
-            answered(eos_ask(s, out.bytes, out.length), rest ? BIT(EOS_BYTES_MISSING) : BIT(EOS_DONE));
-            CHECK(rest == 0 || eos_message(s, out.bytes, out.length).length == 0);
+            message(s, out, &number);
+            CHECK(number == (rest ? EOS_BYTES_MISSING : EOS_DONE));
             break;
         default: /* the next bytes, at times none */
             piece = copy_of(pulled.bytes + s->taken, below((uint32_t)rest + 1));
@@ -436,30 +467,30 @@ static void take_all(struct eos_state *s, struct lent pulled, struct lent out)
     }
 }
 
-static void assemble_one(struct lent frame, const struct eos_read_answer *r, struct eos_part inline_part)
+static void assemble_one(struct lent frame, uint32_t read, const struct eos_header *h, struct eos_part inline_part)
 {
-    uint64_t length = message_length(&r->header, inline_part.length);
+    uint64_t length = read == EOS_DONE ? message_length(h, inline_part.length) : 0;
     size_t room = length > EOS_LONGEST_MESSAGE ? below(100) : (size_t)length + below(9);
     struct lent out = lend(below(8) ? room : below((uint32_t)room + 1));
     struct lent was = copy_of(out.bytes, out.length);
-    struct eos_state_answer s = eos_start(frame.bytes, frame.length, out.bytes, out.length);
-    answered(s.number, START_NUMBERS);
-    CHECK(r->number == EOS_DONE || s.number == r->number);
-    if (s.number != EOS_DONE) {
-        CHECK(same_state(&s.state, &no_state) && same_bytes(out, was));
-        reply_one(frame, s.number);
+    struct eos_state s;
+    uint32_t number = start(frame, out, &s);
+    CHECK(read == EOS_DONE || number == read);
+    if (number != EOS_DONE) {
+        CHECK(same_bytes(out, was));
+        reply_one(frame, number);
     } else {
-        struct lent pulled = lend((size_t)to_pull(&r->header));
+        struct lent pulled = lend((size_t)to_pull(h));
         struct lent at_once = copy_of(out.bytes, out.length);
-        CHECK(same_reads(s.state.reads, r->header.reads) && s.state.read_count == r->header.read_count);
-        CHECK(s.state.kind == r->header.kind && s.state.buffer == out.length && s.state.taken == 0);
-        struct eos_state whole = s.state;
+        CHECK(memcmp(s.reads, h->reads, sizeof s.reads) == 0 && s.read_count == h->read_count);
+        CHECK(s.kind == h->kind && s.buffer == out.length && s.taken == 0);
+        /* Reserved words are ignored and kept. */
+        s.reads[below(EOS_READ_SEGMENTS)].reserved = (uint32_t)any();
+        struct eos_state whole = s;
         CHECK(eos_take_piece(&whole, pulled.bytes, pulled.length, at_once.bytes, at_once.length) == EOS_DONE);
-        take_all(&s.state, pulled, out);
-        struct eos_part message = eos_message(&s.state, out.bytes, out.length);
-        CHECK(eos_ask(&s.state, out.bytes, out.length) == EOS_DONE);
-        CHECK(same_state(&s.state, &whole) && same_bytes(out, at_once));
-        CHECK(message.offset == 0 && message.length == length && same_behind(out, was, length));
+        take_all(&s, pulled, out);
+        CHECK(message(&s, out, &number) == length && number == EOS_DONE);
+        CHECK(same_state(&s, &whole) && same_bytes(out, at_once) && same_behind(out, was, length));
         give_back(at_once);
         give_back(pulled);
     }
@@ -479,28 +510,35 @@ static void connect_one(void)
     struct lent was = copy_of(out.bytes, out.length);
     if (below(4))
         memcpy(bytes.bytes, front, smaller(bytes.length, sizeof front));
-    struct eos_setup_answer read = eos_read_setup(bytes.bytes, bytes.length);
-    answered(read.number, BIT(EOS_DONE));
-    CHECK(read.present <= (bytes.length >= EOS_SETUP_BYTES));
+    struct eos_setup theirs, back, ours = {below(8) ? below(2) : edge(), some_size(), some_size()};
+    uint32_t present;
+    answered(eos_read_setup(bytes.bytes, bytes.length, &theirs, &present), BIT(EOS_DONE));
+    CHECK(present <= (bytes.length >= EOS_SETUP_BYTES));
 
-    struct eos_setup ours = {below(8) ? below(2) : edge(), some_size(), some_size()};
-    struct eos_agreement a = eos_agree(read.setup, ours);
-    answered(a.number, ARGUMENT_NUMBERS);
-    CHECK(a.client_to_server <= read.setup.send && a.server_to_client <= read.setup.receive);
-    struct eos_write_answer w = eos_write_setup(ours, out.bytes, out.length);
-    answered(w.number, ROOM_NUMBERS);
-    CHECK((a.number == EOS_BAD_ARGUMENT) == (w.number == EOS_BAD_ARGUMENT));
-    CHECK(w.length == (w.number == EOS_DONE ? EOS_SETUP_BYTES : 0) && same_behind(out, was, w.length));
-    if (w.number == EOS_DONE) {
-        struct eos_setup back = eos_read_setup(out.bytes, out.length).setup;
-        CHECK(back.send == ours.send && back.receive == ours.receive);
-        CHECK(back.remote_invalidation == ours.remote_invalidation);
+    struct eos_agreement a, before;
+    noise(&a, sizeof a);
+    before = a;
+    uint32_t agreed = eos_agree(&theirs, &ours, &a);
+    answered(agreed, ARGUMENT_NUMBERS);
+    if (agreed == EOS_DONE)
+        CHECK(a.client_to_server <= theirs.send && a.server_to_client <= theirs.receive);
+    else
+        CHECK(memcmp(&a, &before, sizeof a) == 0);
+    size_t lent_length = (size_t)any(), length = lent_length;
+    uint32_t written = eos_write_setup(&ours, out.bytes, out.length, &length);
+    length = stored(written, ROOM_NUMBERS, lent_length, length);
+    CHECK((agreed == EOS_BAD_ARGUMENT) == (written == EOS_BAD_ARGUMENT));
+    CHECK(length == (written == EOS_DONE ? EOS_SETUP_BYTES : 0) && same_behind(out, was, length));
+    if (written == EOS_DONE) {
+        CHECK(eos_read_setup(out.bytes, out.length, &back, &present) == EOS_DONE && present == 1);
+        CHECK(memcmp(&back, &ours, sizeof ours) == 0);
     }
 
-    uint32_t asked = edge(), limit = edge();
-    struct eos_grant_answer g = eos_grant(asked, limit);
-    answered(g.number, ARGUMENT_NUMBERS);
-    CHECK((g.number == EOS_DONE) == (limit > 0) && (g.credit > 0) == (limit > 0) && g.credit <= limit);
+    uint32_t asked = edge(), limit = edge(), credit_before = (uint32_t)any(), credit = credit_before;
+    uint32_t granted = eos_grant(asked, limit, &credit);
+    answered(granted, ARGUMENT_NUMBERS);
+    CHECK((granted == EOS_DONE) == (limit > 0));
+    CHECK(granted == EOS_DONE ? 0 < credit && credit <= limit : credit == credit_before);
     give_back(was);
     give_back(out);
     give_back(bytes);
@@ -515,8 +553,9 @@ int main(int argc, char **argv)
         struct lent frame = some_frame();
         struct lent was = copy_of(frame.bytes, frame.length);
         struct eos_part inline_part;
-        struct eos_read_answer r = read_one(frame, &inline_part);
-        assemble_one(frame, &r, inline_part);
+        struct eos_header read;
+        uint32_t number = read_one(frame, &read, &inline_part);
+        assemble_one(frame, number, &read, inline_part);
         reply_one(frame, below(24));
         CHECK(same_bytes(frame, was));
         give_back(was);

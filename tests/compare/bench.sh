@@ -3,7 +3,7 @@
 # where bytes are moved, the bare copies of the same bytes to the same places too.
 set -eu
 cd "$(dirname "$0")"
-: "${EOS_LIB_DIR:?set EOS_LIB_DIR to the folder that holds libport.a}"
+: "${EOS_LIB_DIR:?set EOS_LIB_DIR to the folder that holds libeoswynnor.a}"
 cargo build --release --offline -j1 --quiet --bin bench
 bench=${CARGO_TARGET_DIR:-target}/release/bench
 

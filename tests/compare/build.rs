@@ -7,8 +7,8 @@ fn main() {
     // Without the folder only the library half (oracle, plain, tests) builds.
     let Ok(folder) = env::var("EOS_LIB_DIR") else { return };
     let folder = fs::canonicalize(&folder).expect("EOS_LIB_DIR is no folder");
-    println!("cargo:rerun-if-changed={}", folder.join("libport.a").display());
+    println!("cargo:rerun-if-changed={}", folder.join("libeoswynnor.a").display());
     println!("cargo:rustc-link-search=native={}", folder.display());
-    println!("cargo:rustc-link-lib=static=port");
+    println!("cargo:rustc-link-lib=static=eoswynnor");
     println!("cargo:rustc-cfg=port");
 }

@@ -21,9 +21,8 @@ use Rattle.layout.proofs.Summing.{none-at-zero, read-total}
 use Rattle.layout.proofs.Putting.{length-places}
 use Rattle.placing.specs.Sources.{sourcePlaces}
 use Rattle.placing.proofs.Laws.{length-based}
-use Rattle.assembly.specs.Assembly.{readsOf, chunksOf, pulledOf, canArise, fitsState}
+use Rattle.assembly.specs.Assembly.{State, readsOf, chunksOf, pulledOf, canArise, fitsState}
 use Rattle.assembly.specs.Judged.{judgedBase, isNomsg, Judges}
-use Rattle.assembly.specs.declared.State.{State}
 use Rattle.assembly.specs.declared.Judged.{Judged}
 use Rattle.assembly.proofs.Starting.{Passed, place-passed, base-same, measured-holds, measured-refused}
 

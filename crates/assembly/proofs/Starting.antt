@@ -2,7 +2,7 @@
 -- Assumes nothing.
 use mathlib.Core.Path.{_≡_, refl, sym, ap, subst, _∙_}
 use mathlib.Core.Bool.{Bool, true, false, cond}
-use mathlib.Core.List.{List, []}
+use mathlib.Core.List.{List, [], _++_}
 use Prim.Native.Nat.{ℕ, _+_, _-_, _%_, _≤_}
 use native.Mathlib.Omega.{arith}
 use borrow.Author.Tests.{leb-true, eqb-true, eqb-false, ne-eqb}
@@ -14,13 +14,15 @@ use Rattle.wire.specs.declared.ReadSegment.{ReadSegment}
 use Rattle.wire.proofs.Laws.{check-passed}
 use Rattle.lists.specs.Parsed.{Parsed, refused, done, each}
 use Rattle.lists.specs.Lists.{positionsNumber}
-use Rattle.lists.specs.Steps.{markedSegmentAt, zeroReads}
-use Rattle.header.specs.Content.{Content, padded}
+use Rattle.lists.specs.Steps.{markedSegmentAt}
+use Rattle.lists.specs.Words.{readsIn, readsWords}
+use Rattle.lists.proofs.Words.{reads-back}
+use Rattle.header.specs.Content.{Content, padded, readListOf}
 use Rattle.header.specs.Frame.{readFrame}
 use Rattle.header.specs.declared.Kind.{Kind}
 use Rattle.header.specs.declared.Kind.the-variants.{Msg, Nomsg, Error}
 use Rattle.header.specs.declared.Shape.{Shape}
-use Rattle.header.proofs.Lies.{Found, bounds, stored-padded, payload-lies}
+use Rattle.header.proofs.Lies.{Found, bounds, payload-lies}
 use Rattle.header.proofs.Ends.{nomsg-ends}
 use Rattle.layout.specs.Places.{put}
 use Rattle.layout.specs.Layout.{kindFits, zeroLength, otherChunks, baseLength, stands, messageLength, placeNumber, places, basePlaces, paddingPlaces}
@@ -31,10 +33,10 @@ use Rattle.layout.specs.declared.Measured.{Measured}
 use Rattle.layout.specs.declared.Measured.the-variants.{Holds, Refused}
 use Rattle.layout.proofs.Putting.{put-first}
 use Rattle.placing.specs.Sources.{Laid, sourcePlaces}
-use Rattle.placing.proofs.Laws.{length-base}
-use Rattle.assembly.specs.Assembly.{baseOf, startNumber, startState, noState, startAnswer, laid, startedInto, startInto}
-use Rattle.assembly.specs.declared.State.{State}
-use Rattle.assembly.specs.declared.StateAnswer.{StateAnswer}
+use Rattle.layout.proofs.Placed.{length-base}
+use Rattle.assembly.specs.Assembly.{baseOf, startNumber, startState, laid, startedInto, startInto}
+use Rattle.assembly.specs.Words.{partsWords, stateWords, startedWords}
+use Rattle.assembly.proofs.Words.{words-padded, padded-length, parts-stored}
 use Rattle.assembly.specs.Judged.{judgedBase}
 
 -- What measuring says of the number, with either answer.
@@ -91,9 +93,12 @@ inline-within Msg atZero inline reads f n = omega arith
 inline-within Nomsg atZero inline reads f n = rw (n refl) (omega arith)
 inline-within (Error x) atZero inline reads f n = absurd (let z : _≡_ {A = ℕ} 0 1 = cc in omega arith)
 
-module _ (s : List ℕ) (shape : Shape) (f : Found s shape) (segs : List ReadSegment) (filled : segs ≡ stored zeroReads 0 (each 24 markedSegmentAt (shape .reads) (drop 16 s))) where
+module _ (s : List ℕ) (shape : Shape) (f : Found s shape) (words : List ℕ) (filled : words ≡ stored (replicate 104 0) 0 (readsWords (each 24 markedSegmentAt (shape .reads) (drop 16 s)))) where
   abbrev content : Content
   content = f .content
+
+  abbrev segs : List ReadSegment
+  segs = readsIn words
 
   kind-is : shape .kind ≡ content .kind
   kind-is = ap (λ (x : Shape). x .kind) (f .shape-is)
@@ -101,11 +106,14 @@ module _ (s : List ℕ) (shape : Shape) (f : Found s shape) (segs : List ReadSeg
   count-is : shape .reads ≡ length (content .reads)
   count-is = ap (λ (x : Shape). x .reads) (f .shape-is)
 
-  -- The array holds the read list of the frame, its unused places zero.
+  -- The words hold the read list of the frame, its unused places zero.
+  words-are : words ≡ readsWords (padded 16 zeroReadSegment (content .reads)) ++ replicate 8 0
+  words-are =
+      filled ∙ ap (λ (n : ℕ). stored (replicate 104 0) 0 (readsWords (each 24 markedSegmentAt n (drop 16 s)))) count-is
+      ∙ ap (λ (l : List ReadSegment). stored (replicate 104 0) 0 (readsWords l)) (sym (f .lies .reads-are)) ∙ words-padded (content .reads) (f .lies .reads-few)
+
   segs-are : segs ≡ padded 16 zeroReadSegment (content .reads)
-  segs-are =
-      filled ∙ ap (λ (n : ℕ). stored zeroReads 0 (each 24 markedSegmentAt n (drop 16 s))) count-is
-      ∙ ap (stored zeroReads 0) (sym (f .lies .reads-are)) ∙ stored-padded 16 zeroReadSegment (content .reads) (f .lies .reads-few)
+  segs-are = ap readsIn words-are ∙ reads-back _ (replicate 8 0) (padded-length (content .reads) (f .lies .reads-few))
 
   reads-are : take (shape .reads) segs ≡ content .reads
   reads-are =
@@ -139,12 +147,13 @@ module _ (s : List ℕ) (shape : Shape) (f : Found s shape) (segs : List ReadSeg
         (λ i. placeNumber (kind-is i) (sums-are i .«any_zero») (base-is i) (otherChunks (reads-are i)) room)
         ∙ ap (λ (p : Parsed Content). startNumber p room) (sym (f .read))
 
-    pub not-started-is : (n : ℕ) → m ≡ Refused n → (out : List ℕ) → length out ≡ room → (record { state = noState; number = n } ≡ startAnswer (readFrame s) room) × (out ≡ startInto (readFrame s) out)
-    unfolding startAnswer startInto
-    not-started-is n e out l =
+    pub not-started-is : (n : ℕ) → m ≡ Refused n → (out w : List ℕ) → length out ≡ room → (n ≡ startNumber (readFrame s) room) × ((w ≡ startedWords (readFrame s) room w) × (out ≡ startInto (readFrame s) out))
+    unfolding startedWords startInto
+    not-started-is n e out w l =
         let told = measured-refused (shape .kind) base (sums .«any_zero») chunks room m measured n e in
         let same : n ≡ startNumber (readFrame s) room = told .0 ∙ number-is in
-        simp (l, ← same, ne-eqb n 0 (told .1)) (refl, refl)
+        let here : startNumber (done content (f .behind)) room ≡ n = ap (λ (p : Parsed Content). startNumber p room) (sym (f .read)) ∙ sym same in
+        simp (l, f .read, here, ne-eqb n 0 (told .1)) (refl, (refl, refl))
 
     module _ (message : ℕ) (holds : m ≡ Holds message) where
       passes : placeNumber (shape .kind) (sums .«any_zero») base chunks room ≡ 0
@@ -160,26 +169,26 @@ module _ (s : List ℕ) (shape : Shape) (f : Found s shape) (segs : List ReadSeg
           let inline = inline-length in
           (record { rise = chunks-ready .1; stand = p .stand; small = omega arith }, p .holds, omega arith)
 
-      pub started-is : (out after : List ℕ) → length out ≡ room → after ≡ laid base chunks (drop (shape .end) s) out →
-          (record { state = record { reads = record { segments = segs; count = shape .reads }; kind = shape .kind; base = base; buffer = room; taken = 0 }; number = 0 } ≡ startAnswer (readFrame s) room)
-          × (after ≡ startInto (readFrame s) out)
-      unfolding startAnswer startInto
-      started-is out after l w =
+      pub started-is : (out after w state : List ℕ) → length out ≡ room → state ≡ stored words 96 (partsWords (record { kind = shape .kind; count = shape .reads; base = base; buffer = room; taken = 0 })) → after ≡ laid base chunks (drop (shape .end) s) out →
+          (0 ≡ startNumber (readFrame s) room) × ((state ≡ startedWords (readFrame s) room w) × (after ≡ startInto (readFrame s) out))
+      unfolding startedWords startInto
+      started-is out after w state l put z =
           let passed : startNumber (done content (f .behind)) room ≡ 0 = ap (λ (p : Parsed Content). startNumber p room) (sym (f .read)) ∙ sym number-is ∙ passes in
-          let state : record { reads = record { segments = segs; count = shape .reads }; kind = shape .kind; base = base; buffer = room; taken = 0 } ≡ startState (done content (f .behind)) room =
-          (λ i. record { reads = record { segments = segs-are i; count = count-is i }; kind = kind-is i; base = base-is i; buffer = room; taken = 0 }) in
+          let whole : state ≡ stateWords (record { reads = readListOf (content .reads); kind = shape .kind; base = base; buffer = room; taken = 0 }) =
+          put ∙ (λ i. stored (words-are i) 96 (partsWords (record { kind = shape .kind; count = count-is i; base = base; buffer = room; taken = 0 }))) ∙ parts-stored (record { reads = readListOf (content .reads); kind = shape .kind; base = base; buffer = room; taken = 0 }) (padded-length (content .reads) (f .lies .reads-few)) in
+          let made : stateWords (record { reads = readListOf (content .reads); kind = shape .kind; base = base; buffer = room; taken = 0 }) ≡ stateWords (startState content (f .behind) room) =
+          (λ i. stateWords (record { reads = readListOf (content .reads); kind = kind-is i; base = base-is i; buffer = room; taken = 0 })) in
           let buffer : laid base chunks (drop (shape .end) s) out ≡ startedInto (done content (f .behind)) out = (λ i. laid (base-is i) (otherChunks (reads-are i)) (inline-is i) out) in
-          simp (l, f .read, passed) (ap (λ (x : State). record { state = x; number = 0 }) state, w ∙ buffer)
+          simp (l, f .read, passed) (refl, (whole ∙ made, z ∙ buffer))
 
 -- A frame that the reader refuses.
-pub refused-is : (s : List ℕ) (n room : ℕ) (out : List ℕ) → readFrame s ≡ refused n → (record { state = noState; number = n } ≡ startAnswer (readFrame s) room) × (out ≡ startInto (readFrame s) out)
-unfolding startAnswer startInto startNumber
-refused-is s n room out e = rw e (by (eqb n 0) refl)
+pub refused-is : (s : List ℕ) (n room : ℕ) (out w : List ℕ) → readFrame s ≡ refused n → (n ≡ startNumber (readFrame s) room) × ((w ≡ startedWords (readFrame s) room w) × (out ≡ startInto (readFrame s) out))
+unfolding startedWords startInto startNumber
+refused-is s n room out w e = rw e (refl, (refl, by (eqb n 0)))
   where
-    by : (b : Bool) → eqb n 0 ≡ b →
-        (_≡_ {A = StateAnswer} (record { state = noState; number = n }) (cond b (record { state = noState; number = 0 }) (record { state = noState; number = n }))) × (out ≡ cond b out out)
-    by true q = (rw (eqb-true n 0 q), refl)
-    by false q = (refl, refl)
+    by : (b : Bool) → out ≡ cond b out out
+    by true = refl
+    by false = refl
 
 -- What laying a base and then the padding leaves.
 pub laid-by : (base : ℕ) (cs : List Run) (inline out placed after : List ℕ) → stands base 0 0 cs ≡ true → length inline ≤ base →

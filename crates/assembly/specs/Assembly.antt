@@ -8,13 +8,21 @@ use Rattle.wire.specs.Answers.{check}
 use Rattle.wire.specs.declared.ReadSegment.{ReadSegment}
 use Rattle.lists.specs.Parsed.{Parsed, refused, done}
 use Rattle.lists.specs.Lists.{mostReads, positionsNumber}
+use Rattle.lists.specs.declared.ReadList.{ReadList}
 use Rattle.header.specs.Content.{Content, readListOf}
+use Rattle.header.specs.declared.Kind.{Kind}
 use Rattle.header.specs.declared.Kind.the-variants.{Msg}
 use Rattle.layout.specs.Places.{put}
 use Rattle.layout.specs.Layout.{anyAtZero, otherChunks, baseLength, messageLength, placeNumber, basePlaces, paddingPlaces, pulledPlaces}
 use Rattle.layout.specs.declared.Run.{Run}
-use Rattle.assembly.specs.declared.State.{State}
-use Rattle.assembly.specs.declared.StateAnswer.{StateAnswer}
+
+-- "The state holds the kind, the read segments, base length, buffer length and count". A caller holds it as words (Words).
+pub record State : Type 0 where
+  pub reads : ReadList
+  pub kind : Kind
+  pub base : ℕ
+  pub buffer : ℕ
+  pub taken : ℕ
 
 -- B, for the content of a frame and the inline bytes behind it.
 abbrev pub baseOf : Content → List ℕ → ℕ
@@ -29,15 +37,9 @@ startNumber (done c inline) room = placeNumber (c .kind) (anyAtZero (c .reads)) 
 abbrev pub noState : State
 noState = record { reads = readListOf []; kind = Msg; base = 0; buffer = 0; taken = 0 }
 
--- "The state holds the kind, the read segments, base length, buffer length and count; a start leaves its unused places zero."
-abbrev pub startState : Parsed Content → ℕ → State
-startState (refused n) room = noState
-startState (done c inline) room = record { reads = readListOf (c .reads); kind = c .kind; base = baseOf c inline; buffer = room; taken = 0 }
-
--- What a start answers.
-unfoldable pub startAnswer : Parsed Content → ℕ → StateAnswer
-startAnswer p room =
-    cond (eqb (startNumber p room) 0) (record { state = startState p room; number = 0 }) (record { state = noState; number = startNumber p room })
+-- "a start leaves its unused places zero": the state behind a start that is accepted.
+abbrev pub startState : Content → List ℕ → ℕ → State
+startState c inline room = record { reads = readListOf (c .reads); kind = c .kind; base = baseOf c inline; buffer = room; taken = 0 }
 
 -- "The start writes an inline base and all padding. Places of pulled bytes keep what they held."
 unfoldable pub laid : ℕ → List Run → List ℕ → List ℕ → List ℕ
@@ -80,15 +82,6 @@ fitsState s room = canArise s && eqb (s .buffer) room
 -- "Taking a piece checks 17, 18.": a piece of `size` bytes.
 unfoldable pub takeNumber : State → ℕ → ℕ → ℕ
 takeNumber s room size = check (fitsState s room) 17 (check (leb (s .taken + size) (length (pulledOf s))) 18 0)
-
--- "of the state only the count of bytes taken changes"
-abbrev pub tookMore : State → ℕ → State
-tookMore s size = record { reads = s .reads; kind = s .kind; base = s .base; buffer = s .buffer; taken = s .taken + size }
-
--- "a refused piece hands back the state it got"
-unfoldable pub takeAnswer : State → ℕ → ℕ → StateAnswer
-takeAnswer s room size =
-    record { state = cond (eqb (takeNumber s room size) 0) (tookMore s size) s; number = takeNumber s room size }
 
 -- "each is written straight into its part of the output buffer"
 unfoldable pub takenInto : State → List ℕ → List ℕ → List ℕ

@@ -1,14 +1,15 @@
 -- What the functions under the reassembly answer. Only internal contracts cite these.
-use Prim.Native.Nat.{ℕ, _≤_}
+use Prim.Native.Nat.{ℕ, _+_, _≤_}
 use mathlib.Core.Path.{_≡_}
-use mathlib.Core.Bool.{Bool, true, false}
+use mathlib.Core.Bool.{Bool, true, false, cond}
 use lib.ListN.{length}
+use lib.Dec.{eqb}
 use Rattle.layout.specs.Layout.{messageLength}
 use Rattle.placing.specs.Sources.{Laid, sourcePlaces}
-use Rattle.assembly.specs.Assembly.{readsOf, chunksOf, pulledOf, fitsState, takeAnswer}
-use Rattle.assembly.specs.declared.State.{State}
+use Rattle.assembly.specs.Assembly.{State, readsOf, chunksOf, pulledOf, fitsState, takeNumber, askNumber}
 use Rattle.assembly.specs.declared.Judged.{Judged}
 use Rattle.assembly.specs.declared.Taken.{Taken}
+use Rattle.assembly.specs.declared.AskAnswer.{AskAnswer}
 use Rattle.header.specs.declared.Kind.{Kind}
 use Rattle.header.specs.declared.Kind.the-variants.{Msg, Nomsg, Error}
 
@@ -39,4 +40,9 @@ pub record Judges (s : State) (room : ℕ) (r : Judged) : Type 0 where
 
 -- The count behind a piece, and the number.
 abbrev pub takenAnswer : State → ℕ → ℕ → Taken
-takenAnswer s room size = record { taken = takeAnswer s room size .state .taken; number = takeAnswer s room size .number }
+takenAnswer s room size = record { taken = cond (eqb (takeNumber s room size) 0) (s .taken + size) (s .taken); number = takeNumber s room size }
+
+-- How long the message is, and the number; 0 where asking is refused.
+unfoldable pub askAnswer : State → ℕ → AskAnswer
+askAnswer s room =
+    record { length = cond (eqb (askNumber s room) 0) (messageLength (s .base) (chunksOf s)) 0; number = askNumber s room }

@@ -9,7 +9,7 @@ use Rattle.wire.specs.declared.ReadSegment.{ReadSegment}
 use Rattle.lists.specs.Parsed.{done}
 use Rattle.header.specs.Content.{Content}
 use Rattle.header.specs.Frame.{readFrame}
-use Rattle.assembly.specs.Assembly.{startAnswer}
+use Rattle.assembly.specs.Words.{startAnswer}
 use Rattle.claims.specs.RoundTrip.{AllBytes}
 use Rattle.claims.specs.Tally.{piece, CutOf, Unchanged}
 use Rattle.claims.proofs.Settled.{settled, in-one-piece, alike}

@@ -20,12 +20,15 @@ use Rattle.layout.specs.Layout.{kindFits, anyAtZero, otherChunks, baseLength, r
 use Rattle.layout.specs.Walks.{totalLength}
 use Rattle.layout.specs.declared.Run.{Run}
 use Rattle.layout.proofs.Putting.{put-none, length-places}
-use Rattle.placing.proofs.Laws.{Placed, all-placed, length-base}
-use Rattle.assembly.specs.Assembly.{baseOf, startAnswer, laid}
+use Rattle.layout.specs.Once.{Once}
+use Rattle.layout.proofs.Once.{once}
+use Rattle.layout.proofs.Placed.{Placed, all-placed, length-base}
+use Rattle.assembly.specs.Assembly.{baseOf, laid}
+use Rattle.assembly.specs.Words.{startAnswer}
 use Rattle.claims.specs.RoundTrip.{AllBytes}
 use Rattle.claims.specs.Tally.{Call, Ending, gives, pulledPlacesOf, tallyBuffer, isFull, tallyMessage, tally, startThen, takenBytes, Finished}
 use Rattle.claims.specs.Message.{messageFrom, wholeMessage, messageOf}
-use Rattle.claims.proofs.Apart.{Apart, put-comm, apart-by, above-from, below-from, apart-right, apart-left, apart-nil, apart-sym, put-join}
+use Rattle.layout.proofs.Apart.{Apart, put-comm, apart-by, above-from, below-from, apart-right, apart-left, apart-nil, apart-sym, put-join}
 use Rattle.claims.proofs.Woven.{le-up, woven, above-gaps, above-pads}
 use Rattle.claims.proofs.Tallied.{length-tally}
 use Rattle.claims.proofs.Settled.{left, settled}
@@ -127,6 +130,10 @@ module _ (frame out : List ℕ) (c : Content) (inline : List ℕ) (b : AllBytes 
       answer = ap (λ (z : Ending). z .asked) e ∙ rw (eq-eqb (length t) (length (pulledPlacesOf c inline)) full, finished-front .1);
       buffer = ap (λ (z : Ending). z .buffer) e ∙ rw message-length finished-buffer;
     }
+
+  -- "each inline byte, pulled byte and padding byte at its defined place, once": the places of an accepted start.
+  pub places-once : Once (baseOf c inline) (otherChunks (c .reads))
+  places-once = once (baseOf c inline) (otherChunks (c .reads)) (passed frame out c inline b read ok .stand)
 
   -- "A finished message, its state and buffer handed on unaltered from call to call since its accepted start, holds each inline byte, pulled byte and padding byte at its defined place, once; bytes behind its end are untouched."
   pub finished : (calls : List Call) → startThen frame out calls .asked .number ≡ 0 → Finished c inline out (takenBytes calls (startThen frame out calls .outcomes)) (startThen frame out calls)

@@ -12,7 +12,7 @@ use lib.Dec.{leb, eqb}
 use Rattle.wire.specs.Wire.{wordAt, wordBytes}
 use Rattle.wire.specs.Answers.{check}
 use Rattle.wire.proofs.Laws.{check-passed}
-use Rattle.setup.specs.Setup.{sizeOf, isSetup, setupIn, noSetup, readSetup, inRule, setupInRule, sizeByte, flagsOf, setupBytes, writeSetupNumber, writeSetupAnswer, writtenSetup, agreement}
+use Rattle.setup.specs.Setup.{sizeOf, isSetup, setupAt, noSetup, readSetup, inRule, setupInRule, sizeByte, flagsOf, setupBytes, writeSetupNumber, writeSetupAnswer, writtenSetup, agreement}
 use Rattle.setup.specs.declared.Size.{Size}
 use Rattle.setup.specs.declared.Setup.{Setup}
 use Rattle.setup.proofs.Laws.{There, in-rule, both-in-rule, setup-there}
@@ -45,7 +45,7 @@ flag-back true = refl
 flag-back false = refl
 
 -- The sizes that two bytes mean are in rule, and so is 1,024.
-setup-fits : (s : List ℕ) → AllBytes s → setupInRule (setupIn s) ≡ true
+setup-fits : (s : List ℕ) → AllBytes s → setupInRule (setupAt s) ≡ true
 unfolding setupInRule AllBytes
 setup-fits s b = simp (byte-in-rule (getD s 6 0) (b 6), byte-in-rule (getD s 7 0) (b 7))
 
@@ -58,12 +58,16 @@ number-is : (x : Setup) (room : ℕ) → writeSetupNumber x room ≡ 0 → check
 unfolding writeSetupNumber
 number-is x room e = e
 
+pub number-zero : (x : Setup) (room : ℕ) → writeSetupAnswer x room .number ≡ 0 → writeSetupNumber x room ≡ 0
+unfolding writeSetupAnswer
+number-zero x room e = e
+
 accepted : (x : Setup) (room : ℕ) → setupInRule x ≡ true → 8 ≤ room → writeSetupNumber x room ≡ 0
 unfolding writeSetupNumber setupBytes wordBytes
 accepted x room ruled fits = simp (ruled, le-leb 8 room fits)
 
 -- What is read where there is setup data, and where there is none.
-there-read : (there : Bool) (s : List ℕ) → isSetup s ≡ there → readSetup s ≡ cond there (record { setup = setupIn s; present = true; number = 0 }) (record { setup = noSetup; present = false; number = 0 })
+there-read : (there : Bool) (s : List ℕ) → isSetup s ≡ there → readSetup s ≡ cond there (record { setup = setupAt s; present = true; number = 0 }) (record { setup = noSetup; present = false; number = 0 })
 unfolding readSetup
 there-read there s e = rw e
 
@@ -90,7 +94,7 @@ setup-back x t h =
     simp (le-leb 8 (length (setupBytes x ++ t)) (omega arith), flag-back (x .«remote_invalidation»), size-back (x .send) (r .0), size-back (x .receive) (r .1))
 
 -- Setup data whose ignored flags are 0 is the bytes of what is read, and what stands behind.
-setup-front : (s : List ℕ) → AllBytes s → There s → getD s 5 0 / 2 ≡ 0 → setupBytes (setupIn s) ++ drop 8 s ≡ s
+setup-front : (s : List ℕ) → AllBytes s → There s → getD s 5 0 / 2 ≡ 0 → setupBytes (setupAt s) ++ drop 8 s ≡ s
 unfolding setupBytes
 setup-front s b there clear =
     let long = there .long in
@@ -105,8 +109,8 @@ pub setup-read-written : (s out : List ℕ) → AllBytes s → readSetup s .pres
 unfolding writtenSetup writeSetupAnswer setupBytes wordBytes
 setup-read-written s out b p clear room =
     let is = sym (present-is s) ∙ p in
-    let front : take 8 s ≡ setupBytes (setupIn s) = subst (λ (l : List ℕ). take 8 l ≡ setupBytes (setupIn s)) (setup-front s b (setup-there s is) clear) (take-append-seam (setupBytes (setupIn s)) (drop 8 s)) in
-    simp (there-read true s is, accepted (setupIn s) (length out) (setup-fits s b) room, front) (refl, refl)
+    let front : take 8 s ≡ setupBytes (setupAt s) = subst (λ (l : List ℕ). take 8 l ≡ setupBytes (setupAt s)) (setup-front s b (setup-there s is) clear) (take-append-seam (setupBytes (setupAt s)) (drop 8 s)) in
+    simp (there-read true s is, accepted (setupAt s) (length out) (setup-fits s b) room, front) (refl, refl)
 
 -- What was written and is read again gives the values, from the whole buffer and from the bytes written alone.
 pub setup-written-read : (x : Setup) (out : List ℕ) → writeSetupNumber x (length out) ≡ 0 →

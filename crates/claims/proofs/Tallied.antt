@@ -18,21 +18,17 @@ use Rattle.header.specs.declared.Kind.the-variants.{Msg, Nomsg, Error}
 use Rattle.layout.specs.Places.{put}
 use Rattle.layout.specs.Layout.{otherChunks, baseLength, pulledPlaces}
 use Rattle.layout.proofs.Putting.{length-put, put-none, put-append}
-use Rattle.assembly.specs.Assembly.{baseOf, startNumber, startState, laid, startedInto, readsOf, chunksOf, pulledOf, canArise, fitsState, takeNumber, tookMore, takeAnswer, takenInto, askNumber, askPart}
-use Rattle.assembly.specs.declared.State.{State}
-use Rattle.claims.specs.Tally.{Call, piece, asking, played, pulledPlacesOf, tallyBuffer, hasRoom, isFull, tallyMessage, tallyAsked, grown, tally, gives, answered, askOutcome, Cut}
+use Rattle.assembly.specs.Assembly.{State, baseOf, startNumber, startState, laid, startedInto, readsOf, chunksOf, pulledOf, canArise, fitsState, takeNumber, takenInto, askNumber, askPart}
+use Rattle.claims.specs.Tally.{Call, piece, asking, pulledPlacesOf, tallyBuffer, hasRoom, isFull, tallyMessage, tallyAsked, grown, tally, gives, answered, Cut}
+use Rattle.assembly.proofs.Kept.{withCount, takenState, base-again}
+use Rattle.claims.proofs.Lent.{stateOutcome, ran}
 use Rattle.claims.proofs.Cutting.{withReads, others-cut, any-cut, zero-cut, rise-cut}
 
--- The base length does not depend on the cut, and for a state it is the one it holds.
-base-cut : (kind : Kind) (inline : ℕ) (xs ys : List ReadSegment) → Cut xs ys → baseLength kind inline ys ≡ baseLength kind inline xs
+-- The base length does not depend on the cut.
+pub base-cut : (kind : Kind) (inline : ℕ) (xs ys : List ReadSegment) → Cut xs ys → baseLength kind inline ys ≡ baseLength kind inline xs
 base-cut Msg inline xs ys c = refl
 base-cut Nomsg inline xs ys c = zero-cut c
 base-cut (Error e) inline xs ys c = refl
-
-base-again : (kind : Kind) (inline : ℕ) (reads : List ReadSegment) → baseLength kind (baseLength kind inline reads) reads ≡ baseLength kind inline reads
-base-again Msg inline reads = refl
-base-again Nomsg inline reads = refl
-base-again (Error e) inline reads = refl
 
 pub length-tally : (c : Content) (inline out t : List ℕ) → length (tallyBuffer c inline out t) ≡ length out
 unfolding tallyBuffer laid
@@ -92,7 +88,7 @@ module _ (c : Content) (inline out : List ℕ) (cut : List ReadSegment) (ok : st
         by true = refl
         by false = refl
 
-    ask-outcome : askOutcome (after (length t)) (tallyBuffer c inline out t) ≡ tallyAsked c inline out t
+    ask-outcome : stateOutcome (after (length t)) (tallyBuffer c inline out t) ≡ tallyAsked c inline out t
     ask-outcome = rw (ask-number, ask-part) (by (isFull c inline t))
       where
         by : (x : Bool) → gives (cond x 0 19) (cond x (tallyMessage c inline out t) []) ≡ cond x (gives 0 (tallyMessage c inline out t)) (gives 19 [])
@@ -103,11 +99,11 @@ module _ (c : Content) (inline out : List ℕ) (cut : List ReadSegment) (ok : st
     unfolding takeNumber
     take-number v = rw (fits-now, pulled-after (length t))
 
-    take-state : (v : List ℕ) → takeAnswer (after (length t)) (length (tallyBuffer c inline out t)) (length v) .state ≡ after (length (grown c inline t v))
-    unfolding takeAnswer
+    take-state : (v : List ℕ) → takenState (after (length t)) (length (tallyBuffer c inline out t)) (length v) ≡ after (length (grown c inline t v))
+    unfolding takenState
     take-state v = rw (take-number v) (by (hasRoom c inline t v))
       where
-        by : (x : Bool) → cond (eqb (cond x 0 18) 0) (tookMore (after (length t)) (length v)) (after (length t)) ≡ after (length (cond x (t ++ v) t))
+        by : (x : Bool) → cond (eqb (cond x 0 18) 0) (withCount (after (length t)) (length t + length v)) (after (length t)) ≡ after (length (cond x (t ++ v) t))
         by true = rw length-append
         by false = refl
 
@@ -127,18 +123,18 @@ module _ (c : Content) (inline out : List ℕ) (cut : List ReadSegment) (ok : st
         by false e = l
 
     -- What a piece hands on.
-    after-piece : (v : List ℕ) (calls : List Call) → played (after (length t)) (tallyBuffer c inline out t) (piece v ∷ calls)
-        ≡ answered (gives (cond (hasRoom c inline t v) 0 18) []) (played (after (length (grown c inline t v))) (tallyBuffer c inline out (grown c inline t v)) calls)
-    unfolding played
+    after-piece : (v : List ℕ) (calls : List Call) → ran (after (length t)) (tallyBuffer c inline out t) (piece v ∷ calls)
+        ≡ answered (gives (cond (hasRoom c inline t v) 0 18) []) (ran (after (length (grown c inline t v))) (tallyBuffer c inline out (grown c inline t v)) calls)
+    unfolding ran
     after-piece v calls = rw (take-number v, take-state v, take-buffer v)
 
-  same : (calls : List Call) (t : List ℕ) → length t ≤ length (pulledPlacesOf c inline) → played (after (length t)) (tallyBuffer c inline out t) calls ≡ tally c inline out t calls
-  unfolding played tally
+  same : (calls : List Call) (t : List ℕ) → length t ≤ length (pulledPlacesOf c inline) → ran (after (length t)) (tallyBuffer c inline out t) calls ≡ tally c inline out t calls
+  unfolding ran tally
   same [] t l = rw (ask-outcome t l)
   same (piece v ∷ calls) t l = after-piece t l v calls ∙ ap (answered (gives (cond (hasRoom c inline t v) 0 18) [])) (same calls (grown c inline t v) (grown-fits t l v))
   same (asking ∷ calls) t l = rw (ask-outcome t l, same calls t l)
 
-  started-state : startState (done (withReads c cut) inline) (length out) ≡ after 0
+  started-state : startState (withReads c cut) inline (length out) ≡ after 0
   started-state = rw base-same
 
   started-buffer : startedInto (done (withReads c cut) inline) out ≡ tallyBuffer c inline out []
@@ -146,5 +142,5 @@ module _ (c : Content) (inline out : List ℕ) (cut : List ReadSegment) (ok : st
   started-buffer = rw (put-none, others-cut k, base-same)
 
   -- "For every such cut and list, each answer number, each part handed back and, after the list, the count of bytes taken and the whole buffer are what 01's plain tally gives"
-  pub tallied : (calls : List Call) → played (startState (done (withReads c cut) inline) (length out)) (startedInto (done (withReads c cut) inline) out) calls ≡ tally c inline out [] calls
+  pub tallied : (calls : List Call) → ran (startState (withReads c cut) inline (length out)) (startedInto (done (withReads c cut) inline) out) calls ≡ tally c inline out [] calls
   tallied calls = rw (started-state, started-buffer) (same calls [] (omega arith))

@@ -13,9 +13,9 @@ use Rattle.layout.specs.Walks.{totalLength}
 use Rattle.layout.specs.declared.Run.{Run}
 use Rattle.layout.proofs.Putting.{put-from, length-from, from-add, length-put}
 use Rattle.layout.proofs.Stood.{rounded-most}
-use Rattle.placing.proofs.Laws.{Placed}
+use Rattle.layout.proofs.Placed.{Placed}
 use Rattle.claims.specs.Message.{messageFrom}
-use Rattle.claims.proofs.Apart.{Apart, Above, put-comm, apart-by, above-append, above-from, below-from, put-join}
+use Rattle.layout.proofs.Apart.{Apart, NotBelow, put-comm, apart-by, above-append, above-from, below-from, put-join}
 
 -- Rounding never makes less.
 pub le-up : (l : ℕ) → l ≤ roundedUp l
@@ -25,18 +25,18 @@ put-run : (k : ℕ) (v out : List ℕ) → k + length v ≤ length out → put (
 unfolding stored
 put-run k v out h = put-from k v out ∙ sets-eq v out k h
 
-pub above-places : (n a k : ℕ) (cs : List Run) → n ≤ a → Placed a k cs → Above n (places cs)
-unfolding places Placed Above
+pub above-places : (n a k : ℕ) (cs : List Run) → n ≤ a → Placed a k cs → NotBelow n (places cs)
+unfolding places Placed NotBelow
 above-places n a k [] h s = tt
 above-places n a k (c ∷ cs) h s = above-append n (from (c .at) (c .length)) (places cs) (above-from n (c .at) (c .length) (omega arith)) (above-places n ((c .at) + roundedUp (c .length)) _ cs (omega arith) (s .2))
 
-pub above-gaps : (n a m k : ℕ) (cs : List Run) → n ≤ a → Placed a k cs → Above n (places (gaps a m cs))
-unfolding places gaps Placed Above
+pub above-gaps : (n a m k : ℕ) (cs : List Run) → n ≤ a → Placed a k cs → NotBelow n (places (gaps a m cs))
+unfolding places gaps Placed NotBelow
 above-gaps n a m k [] h s = above-append n (from a (m - a)) [] (above-from n a (m - a) h) tt
 above-gaps n a m k (c ∷ cs) h s = above-append n (from a ((c .at) - a)) _ (above-from n a ((c .at) - a) h) (above-gaps n ((c .at) + roundedUp (c .length)) m _ cs (omega arith) (s .2))
 
-pub above-pads : (n a k : ℕ) (cs : List Run) → n ≤ a → Placed a k cs → Above n (places (paddings cs))
-unfolding places paddings Placed Above
+pub above-pads : (n a k : ℕ) (cs : List Run) → n ≤ a → Placed a k cs → NotBelow n (places (paddings cs))
+unfolding places paddings Placed NotBelow
 above-pads n a k [] h s = tt
 above-pads n a k (c ∷ cs) h s = above-append n (from ((c .at) + (c .length)) (roundedUp (c .length) - (c .length))) _ (above-from n ((c .at) + (c .length)) (roundedUp (c .length) - (c .length)) (omega arith)) (above-pads n ((c .at) + roundedUp (c .length)) _ cs (omega arith) (s .2))
 
@@ -63,7 +63,7 @@ drop-front a k m x b h e km =
 
 -- one chunk of u places, l of them pulled, behind the base bytes b1
 woven-step : (a p l u m : ℕ) (G C P b1 b2 d1 d2 z1 z2 w b : List ℕ) → a ≤ p → length b1 ≡ p - a → length d1 ≡ l → length z1 ≡ u - l → l ≤ u → p + u ≤ m → m ≤ length b →
-    Above (p + u) G → Above (p + u) P →
+    NotBelow (p + u) G → NotBelow (p + u) P →
     ((c : List ℕ) → length c ≡ length b → put C d2 (put P z2 (put G b2 c)) ≡ take (p + u) c ++ w ++ drop m c) →
     put (from p l ++ C) (d1 ++ d2) (put (from (p + l) (u - l) ++ P) (z1 ++ z2) (put (from a (p - a) ++ G) (b1 ++ b2) b)) ≡ take a b ++ (b1 ++ d1 ++ z1 ++ w) ++ drop m b
 woven-step a p l u m G C P b1 b2 d1 d2 z1 z2 w b le hb hd hz lu pm mb aG aP ih =

@@ -10,7 +10,8 @@ use Rattle.header.specs.Content.{headerOf}
 use Rattle.header.specs.declared.Header.{Header}
 use Rattle.header.specs.declared.Kind.the-variants.{Msg}
 use Rattle.writer.specs.Write.{writeAnswer, writtenInto}
-use Rattle.assembly.specs.Assembly.{startAnswer}
+use Rattle.assembly.specs.Assembly.{takeNumber}
+use Rattle.assembly.specs.Words.{stateIn, startAnswer}
 use Rattle.claims.specs.Tally.{Call, piece, asking, Outcome, gives, startThen}
 use Rattle.setup.specs.Setup.{readSetup, noSetup}
 use Rattle.setup.specs.declared.SetupAnswer.{SetupAnswer}
@@ -33,6 +34,10 @@ pub data Example : Type 0 where
   setup-reads : List ℕ → SetupAnswer → Example
   -- what is granted to one who asks, with a limit
   grants : ℕ → ℕ → ℕ → Example
+  -- a grant with this limit gives this number
+  grant-gives : ℕ → ℕ → ℕ → Example
+  -- a piece of so many bytes, for a state that lies in these words and a buffer of so many bytes, gives this number
+  piece-gives : List ℕ → ℕ → ℕ → ℕ → Example
 
 -- What it means that a worked example holds.
 abbrev pub Holds : Example → Type 0
@@ -48,6 +53,8 @@ Holds (assembles frame room calls outcomes) =
     (startAnswer (readFrame frame) room .number ≡ 0) × (startThen frame (replicate room 0xff) calls .outcomes ≡ outcomes)
 Holds (setup-reads bytes answer) = readSetup bytes ≡ answer
 Holds (grants asked limit credit) = grantAnswer asked limit ≡ record { credit = credit; number = 0 }
+Holds (grant-gives asked limit number) = grantAnswer asked limit .number ≡ number
+Holds (piece-gives w room size number) = takeNumber (stateIn w) room size ≡ number
 
 -- "C2 Words 2a, 1, 20, 0, 0, 0, 0 (hexadecimal)"
 abbrev pub c2 : List ℕ
@@ -127,4 +134,21 @@ examples =
     ∷ grants 0 32 1
     ∷ grants 100 32 32
     ∷ header-takes full 960
+    ∷ []
+
+-- The numbers of the table that C1 to C13 do not show, each given once (21 cannot be given).
+abbrev pub numbers : List Example
+numbers =
+    frame-reads (words (0x2a ∷ 1 ∷ 0x20 ∷ 2 ∷ [])) 3 []
+    ∷ frame-reads (words (0x2a ∷ 1 ∷ 0x20 ∷ 3 ∷ [])) 4 []
+    ∷ frame-reads (call 0 (replicate 17 (4, 0)) []) 7 []
+    ∷ frame-reads (call 0 ((8, 4) ∷ (4, 4) ∷ []) []) 8 []
+    ∷ frame-reads (call 0 ((6, 4) ∷ []) []) 9 []
+    ∷ frame-reads (words (0x2a ∷ 1 ∷ 0x20 ∷ 4 ∷ 3 ∷ [])) 10 []
+    ∷ frame-reads (call 1 [] (0xff ∷ [])) 11 []
+    ∷ starts (call 1 [] []) 0 12
+    ∷ starts (call 0 [] (1 ∷ [])) 4 13
+    ∷ starts (call 0 ((4, 1048576) ∷ []) four) 0 15
+    ∷ piece-gives (replicate 103 0 ++ (2 ∷ [])) 0 0 17
+    ∷ grant-gives 1 0 20
     ∷ []

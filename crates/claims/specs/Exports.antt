@@ -1,29 +1,27 @@
--- A reassembly by the exports: the flat state handed on from call to call.
+-- A reassembly by the exports, as their contracts settle it: the words of the state, the buffer and the lent size handed on from call to call.
 use Prim.Native.Nat.{ℕ}
 use mathlib.Core.List.{List, [], _∷_}
-use lib.ListN.{length, take, drop}
+use lib.ListN.{length, take}
+use Rattle.wire.specs.Answers.{unlessRefused}
 use Rattle.header.specs.Frame.{readFrame}
-use Rattle.assembly.specs.Assembly.{startAnswer, startInto}
-use Rattle.port.specs.FlatState.{flatStarted, flatTaken, flatTakenInto, flatAsked, flatMessage}
-use Rattle.port.specs.declared.FlatState.{FlatState}
-use Rattle.port.specs.declared.FlatPart.{FlatPart}
+use Rattle.assembly.specs.Assembly.{startInto, takeNumber, takenInto, askNumber}
+use Rattle.assembly.specs.Words.{stateIn, startedWords, takenWords}
+use Rattle.c_assembly.specs.Message.{askedSize}
 use Rattle.claims.specs.Tally.{Call, piece, asking, Outcome, Ending, gives, answered}
 
--- The bytes of a part that is given as offset and length.
-abbrev pub partIn : FlatPart → List ℕ → List ℕ
-partIn p out = take (p .length) (drop (p .offset) out)
-
--- What the two calls answer to an asking.
-abbrev pub flatAskOutcome : FlatState → List ℕ → Outcome
-flatAskOutcome f out = gives (flatAsked f (length out)) (partIn (flatMessage f out) out)
+-- What asking gives a caller of `eos_message`: the number, and with 0 as many of the buffer's first bytes as were stored.
+abbrev pub exportOutcome : List ℕ → List ℕ → ℕ → Outcome
+exportOutcome w out size =
+    gives (askNumber (stateIn w) (length out)) (unlessRefused (askNumber (stateIn w) (length out)) (take (askedSize (stateIn w) (length out) size) out) [])
 
 -- "Each gets the state last given back and the buffer as last left": what the contracts of the exports hand on.
-unfoldable pub flatPlayed : FlatState → List ℕ → List Call → Ending
-flatPlayed f out [] = record { outcomes = []; count = f .taken; buffer = out; asked = flatAskOutcome f out }
-flatPlayed f out (piece v ∷ calls) =
-    answered (gives (flatTaken f (length out) (length v) .number) []) (flatPlayed (flatTaken f (length out) (length v) .state) (flatTakenInto f v out) calls)
-flatPlayed f out (asking ∷ calls) = answered (flatAskOutcome f out) (flatPlayed f out calls)
+unfoldable pub exportPlayed : List ℕ → List ℕ → ℕ → List Call → Ending
+exportPlayed w out size [] = record { outcomes = []; count = stateIn w .taken; buffer = out; asked = exportOutcome w out size }
+exportPlayed w out size (piece v ∷ calls) =
+    answered (gives (takeNumber (stateIn w) (length out) (length v)) []) (exportPlayed (takenWords w (length out) (length v)) (takenInto (stateIn w) v out) size calls)
+exportPlayed w out size (asking ∷ calls) =
+    answered (exportOutcome w out size) (exportPlayed w out (askedSize (stateIn w) (length out) size) calls)
 
--- A start by the export, then the calls.
-abbrev pub flatStartThen : List ℕ → List ℕ → List Call → Ending
-flatStartThen frame out calls = flatPlayed (flatStarted (startAnswer (readFrame frame) (length out)) .state) (startInto (readFrame frame) out) calls
+-- A start by `eos_start` over words that hold anything, then the calls.
+abbrev pub exportThen : List ℕ → List ℕ → List ℕ → ℕ → List Call → Ending
+exportThen frame out w size calls = exportPlayed (startedWords (readFrame frame) (length out) w) (startInto (readFrame frame) out) size calls

@@ -29,6 +29,10 @@ unfoldable pub All : {A : Type 0} → (A → Type 0) → List A → Type 0
 All P [] = Unit {0}
 All P (x ∷ l) = P x × All P l
 
+-- Each of the words that a caller lends is one of 32 bits.
+abbrev pub AllWords : List ℕ → Type 0
+AllWords w = (i : ℕ) → Word32 (getD w i 0)
+
 -- A segment whose numbers fit their fields: "a segment's offset has 64 bits".
 pub record SegmentFits (x : Segment) : Type 0 where
   pub handle-fits : Word32 (x .handle)

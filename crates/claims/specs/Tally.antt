@@ -11,8 +11,8 @@ use Rattle.header.specs.Frame.{readFrame}
 use Rattle.writer.specs.Bytes.{readListBytes}
 use Rattle.layout.specs.Places.{put}
 use Rattle.layout.specs.Layout.{otherChunks, messageLength, pulledPlaces}
-use Rattle.assembly.specs.Assembly.{baseOf, startAnswer, startInto, laid, takeNumber, takeAnswer, takenInto, askNumber, askPart}
-use Rattle.assembly.specs.declared.State.{State}
+use Rattle.assembly.specs.Assembly.{baseOf, startInto, laid, takeNumber, takenInto, askNumber, askPart}
+use Rattle.assembly.specs.Words.{stateIn, startAnswer, takenWords}
 use Rattle.claims.specs.RoundTrip.{All, ReadSegmentFits}
 use Rattle.claims.specs.Message.{messageOf}
 
@@ -41,16 +41,16 @@ pub record Ending : Type 0 where
 abbrev pub answered : Outcome → Ending → Ending
 answered o e = record { outcomes = o ∷ e .outcomes; count = e .count; buffer = e .buffer; asked = e .asked }
 
--- "asking for the message": the number and the part that the contracts of the two calls settle.
-abbrev pub askOutcome : State → List ℕ → Outcome
-askOutcome s out = gives (askNumber s (length out)) (askPart s out)
+-- "asking for the message": the number and the part that the contracts of the two calls settle, for a state that lies in words.
+abbrev pub askOutcome : List ℕ → List ℕ → Outcome
+askOutcome w out = gives (askNumber (stateIn w) (length out)) (askPart (stateIn w) out)
 
 -- "Each gets the state last given back and the buffer as last left; nobody else writes either meanwhile.": what the contracts of the calls hand on.
-unfoldable pub played : State → List ℕ → List Call → Ending
-played s out [] = record { outcomes = []; count = s .taken; buffer = out; asked = askOutcome s out }
-played s out (piece v ∷ calls) =
-    answered (gives (takeNumber s (length out) (length v)) []) (played (takeAnswer s (length out) (length v) .state) (takenInto s v out) calls)
-played s out (asking ∷ calls) = answered (askOutcome s out) (played s out calls)
+unfoldable pub played : List ℕ → List ℕ → List Call → Ending
+played w out [] = record { outcomes = []; count = stateIn w .taken; buffer = out; asked = askOutcome w out }
+played w out (piece v ∷ calls) =
+    answered (gives (takeNumber (stateIn w) (length out) (length v)) []) (played (takenWords w (length out) (length v)) (takenInto (stateIn w) v out) calls)
+played w out (asking ∷ calls) = answered (askOutcome w out) (played w out calls)
 
 -- "After it comes any list of these calls": a start over a frame and a buffer, then the calls.
 abbrev pub startThen : List ℕ → List ℕ → List Call → Ending

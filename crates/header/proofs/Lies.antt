@@ -2,35 +2,32 @@
 -- Assumes nothing.
 use mathlib.Core.Path.{_≡_, refl, sym, ap, subst, _∙_}
 use mathlib.Core.Bool.{Bool, true, false, cond}
-use mathlib.Core.List.{List, [], _∷_, _++_, map}
+use mathlib.Core.List.{List, [], _∷_}
 use mathlib.Core.Option.{Option, none, some}
 use Prim.Native.Nat.{ℕ, _+_, _-_, _*_, _≤_}
 use native.Mathlib.Omega.{arith}
-use native.Mathlib.Nat.{zero-add}
 use borrow.Author.Tests.{leb-true}
-use lib.ListN.{length, drop, replicate, length-drop, length-replicate, length-map, replicate-append-replicate}
-use lib.Seq.{sets-eq, drop-drop, drop-at}
+use lib.ListN.{length, drop, replicate, length-drop, length-replicate, replicate-append-replicate}
+use lib.Seq.{drop-drop, drop-at}
 use lib.Dec.{leb, eqb}
-use Rattle.wire.specs.Wire.{wordAt, wordOf, segmentAt, stored, joined, zeroSegment, zeroReadSegment}
+use Rattle.wire.specs.Wire.{wordAt, wordOf, segmentAt, joined, zeroSegment}
 use Rattle.wire.specs.declared.Word.{Word}
 use Rattle.wire.specs.declared.Word.the-variants as word
 use Rattle.wire.specs.declared.Segment.{Segment}
 use Rattle.wire.specs.declared.ReadSegment.{ReadSegment}
 use Rattle.lists.specs.Parsed.{Parsed, refused, done, each}
 use Rattle.lists.specs.Lists.{afterWord, readList, writeList, replyChunk, positionsNumber}
-use Rattle.lists.specs.Steps.{markedSegmentAt, chunksAt, ChunksFit, withChunks, zeroReads}
-use Rattle.lists.specs.declared.WriteList.{WriteList}
+use Rattle.lists.specs.Steps.{markedSegmentAt, chunksAt, ChunksFit}
 use Rattle.lists.proofs.Laws.{never, required, both, word-room, Chunk, chunk-of, ChunkFront, chunk-front}
 use Rattle.lists.proofs.Laws as laws
 use Rattle.lists.proofs.Found.{reads-of, writes-of, reply-refused, reply-absent, reply-chunk, ReadsAre, WritesAre, reads-rise}
-use Rattle.header.specs.Content.{Content, padded, readListOf, writeListOf, replyChunkOf, headerOf}
-use Rattle.header.specs.Frame.{threeParts, errorContent, errorBody, nothingBehind, byProcedure, readFrame, readAnswer, payloadOf}
-use Rattle.header.specs.Shape.{isPresent, replies, shapeOf, frameWalk, emptyReply, bareContent}
+use Rattle.header.specs.Content.{Content, replyChunkOf}
+use Rattle.header.specs.Frame.{threeParts, errorContent, errorBody, nothingBehind, byProcedure, readFrame, payloadOf}
+use Rattle.header.specs.Shape.{replies, shapeOf, frameWalk, emptyReply}
 use Rattle.header.specs.declared.Kind.{Kind}
 use Rattle.header.specs.declared.Kind.the-variants.{Msg, Nomsg}
 use Rattle.header.specs.declared.ErrorKind.{ErrorKind}
 use Rattle.header.specs.declared.ErrorKind.the-variants as error
-use Rattle.header.specs.declared.Header.{Header}
 use Rattle.header.specs.declared.Shape.{Shape}
 use Rattle.header.specs.declared.FrameWalk.the-variants as walk
 use Rattle.header.proofs.Walks.{suffix}
@@ -253,19 +250,12 @@ unfound s n e = go (readFrame s) e
     go (refused k) q = cc
     go (done c t) q = absurd (let z : _≡_ {A = ℕ} 0 1 = cc in omega arith)
 
-drop-replicate : {A : Type 0} (k n : ℕ) (a : A) → k ≤ n → drop k (replicate n a) ≡ replicate (n - k) a
+pub drop-replicate : {A : Type 0} (k n : ℕ) (a : A) → k ≤ n → drop k (replicate n a) ≡ replicate (n - k) a
 drop-replicate {A} k n a h =
     let e : n ≡ k + (n - k) = omega arith in
     ap (λ (m : ℕ). drop k (replicate m a)) e
     ∙ ap (λ (l : List A). drop k l) (sym (replicate-append-replicate k (n - k) a))
     ∙ drop-at (replicate k a) (replicate (n - k) a) k (length-replicate k a)
-
--- What is stored at the front of empty places is padded by the rest of them.
-pub stored-padded : {A : Type 0} (n : ℕ) (z : A) (l : List A) → length l ≤ n → stored (replicate n z) 0 l ≡ padded n z l
-unfolding stored
-stored-padded {A} n z l h =
-    let fits : 0 + length l ≤ length (replicate n z) = rw (zero-add, length-replicate) h in
-    sets-eq l (replicate n z) 0 fits ∙ rw zero-add (ap (λ (r : List A). l ++ r) (drop-replicate (length l) n z h))
 
 -- A list of no entries.
 pub none-of : {A : Type 0} (l : List A) → length l ≡ 0 → l ≡ []
@@ -284,120 +274,9 @@ pub empty-reply : (present : Bool) → record { segments = replicate 16 zeroSegm
 empty-reply true = refl
 empty-reply false = refl
 
-no-replies : (reply : Option (List Segment)) → replies reply ≡ 0 → reply ≡ emptyReply (isPresent reply)
-no-replies none e = refl
-no-replies (some l) e = ap some (none-of l e)
-
--- A frame whose lists are empty.
-pub bare-read : (s : List ℕ) (shape : Shape) → Found s shape → shape .reads + shape .chunks + shape .replies ≡ 0 →
-    readAnswer (readFrame s) ≡ record { header = headerOf (bareContent (shape .kind) (wordAt s 0) (wordAt s 8) (shape .present)); number = 0 }
-bare-read s shape f e =
-    let c = f .content in
-    let k : shape .kind ≡ c .kind = ap (λ (x : Shape). x .kind) (f .shape-is) in
-    let n : shape .reads ≡ length (c .reads) = ap (λ (x : Shape). x .reads) (f .shape-is) in
-    let m : shape .chunks ≡ length (c .writes) = ap (λ (x : Shape). x .chunks) (f .shape-is) in
-    let r : shape .replies ≡ replies (c .reply) = ap (λ (x : Shape). x .replies) (f .shape-is) in
-    let p : shape .present ≡ isPresent (c .reply) = ap (λ (x : Shape). x .present) (f .shape-is) in
-    rw (f .read, k, p) (ap (λ (x : Content). record { header = headerOf x; number = 0 })
-    (same c (f .lies .xid) (f .lies .credit) (none-of (c .reads) (omega arith)) (none-of (c .writes) (omega arith)) (no-replies (c .reply) (omega arith))))
-  where
-    same : (c : Content) → c .xid ≡ wordAt s 0 → c .credit ≡ wordAt s 8 → c .reads ≡ [] → c .writes ≡ [] → c .reply ≡ emptyReply (isPresent (c .reply)) →
-        c ≡ bareContent (c .kind) (wordAt s 0) (wordAt s 8) (isPresent (c .reply))
-    same c x y a b r = λ i. record { kind = c .kind; xid = x i; credit = y i; reads = a i; writes = b i; reply = r i }
-
--- A header put together from the places where its parts lie.
-abbrev pub builtFrom : List ℕ → Shape → Header
-builtFrom s shape = record {
-  reads = record { segments = stored zeroReads 0 (each 24 markedSegmentAt (shape .reads) (drop 16 s)); count = shape .reads };
-  writes =
-      withChunks 0 0 (record { segments = replicate 16 zeroSegment; counts = replicate 4 0; chunks = shape .chunks })
-      (chunksAt (shape .chunks) (drop (20 + shape .reads * 24) s));
-  reply = record {
-    segments = stored (replicate 16 zeroSegment) 0 (each 16 (λ v. segmentAt v 0) (shape .replies) (drop (shape .end - shape .replies * 16) s));
-    count = shape .replies;
-    present = shape .present;
-  };
-  kind = shape .kind;
-  xid = wordAt s 0;
-  credit = wordAt s 8;
-}
-
-built-writes : (cs : List (List Segment)) → length cs ≤ 4 → length (joined (λ w. w) cs) ≤ 16 →
-    withChunks 0 0 (record { segments = replicate 16 zeroSegment; counts = replicate 4 0; chunks = length cs }) cs ≡ writeListOf cs
-unfolding withChunks
-built-writes cs few within =
-    let a = stored-padded 16 zeroSegment (joined (λ w. w) cs) within in
-    let b = stored-padded 4 0 (map length cs) (rw length-map few) in
-    λ i. record { segments = a i; counts = b i; chunks = length cs }
-
-built-reply : (reply : Option (List Segment)) (l : List Segment) → replies reply ≤ 16 → replySegments reply ≡ l →
-    record { segments = stored (replicate 16 zeroSegment) 0 l; count = replies reply; present = isPresent reply } ≡ replyChunkOf reply
-built-reply reply l few e = rw (← e) (go reply few)
-  where
-    go : (reply : Option (List Segment)) → replies reply ≤ 16 →
-        record { segments = stored (replicate 16 zeroSegment) 0 (replySegments reply); count = replies reply; present = isPresent reply } ≡ replyChunkOf reply
-    go none h = let a = stored-padded 16 zeroSegment [] (omega arith) in λ i. record { segments = a i; count = 0; present = false }
-    go (some r) h = let a = stored-padded 16 zeroSegment r h in λ i. record { segments = a i; count = length r; present = true }
-
-pub built : (s : List ℕ) (shape : Shape) → Found s shape → builtFrom s shape ≡ readAnswer (readFrame s) .header
-unfolding headerOf
-built s shape f = rw (f .read, f .shape-is)
-    (λ i. record { reads = reads i; writes = writes i; reply = reply i; kind = c .kind; xid = sym (l .xid) i; credit = sym (l .credit) i })
-  where
-    c : Content
-    c = f .content
-
-    l : Lies s (f .content) (f .behind)
-    l = f .lies
-
-    reads : record { segments = stored zeroReads 0 (each 24 markedSegmentAt (length (c .reads)) (drop 16 s)); count = length (c .reads) } ≡ readListOf (c .reads)
-    reads =
-        let p = ap (stored zeroReads 0) (sym (l .reads-are)) ∙ stored-padded 16 zeroReadSegment (c .reads) (l .reads-few) in
-        λ i. record { segments = p i; count = length (c .reads) }
-
-    writes : withChunks 0 0 (record { segments = replicate 16 zeroSegment; counts = replicate 4 0; chunks = length (c .writes) }) (chunksAt (length (c .writes)) (drop (20 + length (c .reads) * 24) s)) ≡ writeListOf (c .writes)
-    writes =
-        ap (withChunks 0 0 (record { segments = replicate 16 zeroSegment; counts = replicate 4 0; chunks = length (c .writes) })) (sym (l .writes-are))
-        ∙ built-writes (c .writes) (l .writes-few) (l .writes-within)
-
-    reply : record {
-      segments = stored (replicate 16 zeroSegment) 0 (each 16 (λ v. segmentAt v 0) (replies (c .reply)) (drop (length s - length (f .behind) - replies (c .reply) * 16) s));
-      count = replies (c .reply);
-      present = isPresent (c .reply);
-    } ≡ replyChunkOf (c .reply)
-    reply = built-reply (c .reply) _ (l .reply .few) (l .reply .are)
-
--- The same of parts that were filled one by one.
-pub built-by : (s : List ℕ) (shape : Shape) → Found s shape → (rs : List ReadSegment) (w : WriteList) (ps : List Segment) (x y : ℕ) →
-    rs ≡ stored zeroReads 0 (each 24 markedSegmentAt (shape .reads) (drop 16 s)) → w ≡ builtFrom s shape .writes →
-    ps ≡ stored (replicate 16 zeroSegment) 0 (each 16 (λ v. segmentAt v 0) (shape .replies) (drop (shape .end - shape .replies * 16) s)) →
-    x ≡ wordAt s 0 → y ≡ wordAt s 8 →
-    record {
-      reads = record { segments = rs; count = shape .reads };
-      writes = w;
-      reply = record { segments = ps; count = shape .replies; present = shape .present };
-      kind = shape .kind;
-      xid = x;
-      credit = y;
-    } ≡ readAnswer (readFrame s) .header
-built-by s shape f rs w ps x y a b c d e =
-    (λ i. record {
-      reads = record { segments = a i; count = shape .reads };
-      writes = b i;
-      reply = record { segments = c i; count = shape .replies; present = shape .present };
-      kind = shape .kind;
-      xid = d i;
-      credit = e i;
-    })
-    ∙ built s shape f
-
 -- The chunks of a frame that was checked fit.
 pub chunks-fit : (s : List ℕ) (shape : Shape) → Found s shape → ChunksFit (shape .chunks) 16 (drop (20 + shape .reads * 24) s)
 chunks-fit s shape f = rw (f .shape-is) (f .lies .writes-fit)
-
--- An accepted reading answers 0 and the header.
-pub answer-is : (s : List ℕ) (shape : Shape) → Found s shape → (h : Header) → h ≡ readAnswer (readFrame s) .header → record { header = h; number = 0 } ≡ readAnswer (readFrame s)
-answer-is s shape f h e = rw (e, f .read)
 
 -- The payload is no longer than the frame.
 pub payload-short : (s : List ℕ) → length (payloadOf (readFrame s)) ≤ length s

@@ -1,3 +1,4 @@
 pub mod Content
+pub mod Words
 pub mod Frame
 pub mod Shape

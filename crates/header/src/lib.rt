@@ -1,4 +1,5 @@
-// The transport header of RPC-over-RDMA version 1, read from a frame. Public: Header and its parts, read_header, payload.
+// The transport header of RPC-over-RDMA version 1, read from a frame. Public: Header and its parts, read_header, payload;
+// decode_header, which reads into lent words.
 use lists::ChunkStep;
 use lists::ListWalk;
 use lists::ReadList;
@@ -10,11 +11,13 @@ use wire::Word;
 ghost use mathlib.Core.Path.{_≡_};
 ghost use Prim.Native.Nat.{_≤_};
 ghost use mathlib.Core.Bool.{cond};
+ghost use mathlib.Core.Option.{some};
 ghost use lib.ListN.{length, drop};
 ghost use lib.Dec.{eqb};
 ghost use Rattle.wire.specs.Wire.{wordAt};
 ghost use Rattle.header.specs.Frame.{readFrame, readAnswer, payloadOf, threeParts, errorBody};
 ghost use Rattle.header.specs.Content.{headerOf};
+ghost use Rattle.header.specs.Words.{kindNumber, lowOf, highOf, kindIn, headerIn, headerWords, readNumber, readWords};
 ghost use Rattle.header.specs.Shape.{errorShape, frameWalk, endedWalk, listRefusal, frameRefusal, bareContent};
 
 // "frame under 16 bytes"
@@ -83,6 +86,12 @@ pub enum Kind {
     Error(ErrorKind),
 }
 
+// A kind that a number names, or none.
+pub enum Known {
+    Is(Kind),
+    No,
+}
+
 pub struct Header {
     pub reads: ReadList,
     pub writes: WriteList,
@@ -91,6 +100,40 @@ pub struct Header {
     pub xid: u32,
     pub credit: u32,
 }
+
+// A header as 238 words that a caller lends: where each part stands. The read list comes first.
+pub const WRITES_AT: usize = 96;
+
+pub const REPLY_AT: usize = 160;
+
+pub const WRITE_COUNTS_AT: usize = 224;
+
+pub const READ_COUNT_AT: usize = 228;
+
+pub const WRITE_CHUNKS_AT: usize = 229;
+
+pub const REPLY_PRESENT_AT: usize = 230;
+
+pub const REPLY_COUNT_AT: usize = 231;
+
+pub const KIND_WORD_AT: usize = 232;
+
+pub const LOW_WORD_AT: usize = 233;
+
+pub const HIGH_WORD_AT: usize = 234;
+
+pub const XID_WORD_AT: usize = 235;
+
+pub const CREDIT_WORD_AT: usize = 236;
+
+// A kind as a number, where a caller lends it.
+pub const KIND_MSG: u32 = 0;
+
+pub const KIND_NOMSG: u32 = 1;
+
+pub const KIND_VERSION_ERROR: u32 = 2;
+
+pub const KIND_CHUNK_ERROR: u32 = 3;
 
 pub struct ReadAnswer {
     pub header: Header,
@@ -110,6 +153,19 @@ pub struct Shape {
 pub enum FrameWalk {
     Found(Shape),
     Refused(u32),
+}
+
+// The kind that a number names; low and high count for a version error alone.
+pub fn kind_in(number: u32, low: u32, high: u32) -> Known
+    ensures { λ r. ⌜ r ≡ kindIn number low high ⌝ }
+{
+    match number {
+        KIND_MSG => Known::Is(Kind::Msg),
+        KIND_NOMSG => Known::Is(Kind::Nomsg),
+        KIND_VERSION_ERROR => Known::Is(Kind::Error(ErrorKind::Version(low, high))),
+        KIND_CHUNK_ERROR => Known::Is(Kind::Error(ErrorKind::Chunk)),
+        _ => Known::No,
+    }
 }
 
 // The number of a list that was refused.
@@ -220,6 +276,47 @@ fn lists_kind(procedure: u32) -> Kind
     Kind::Nomsg
 }
 
+// A kind as a number.
+pub fn kind_number(kind: Kind) -> u32
+    ensures { λ r. ⌜ r ≡ kindNumber kind ⌝ }
+{
+    match kind {
+        Kind::Msg => KIND_MSG,
+        Kind::Nomsg => KIND_NOMSG,
+        Kind::Error(e) => match e {
+            ErrorKind::Version(_, _) => KIND_VERSION_ERROR,
+            ErrorKind::Chunk => KIND_CHUNK_ERROR,
+        },
+    }
+}
+
+// The two numbers of a version error; zero for any other kind.
+fn low_of(kind: Kind) -> u32
+    ensures { λ r. ⌜ r ≡ lowOf kind ⌝ }
+{
+    match kind {
+        Kind::Msg => 0,
+        Kind::Nomsg => 0,
+        Kind::Error(e) => match e {
+            ErrorKind::Version(low, _) => low,
+            ErrorKind::Chunk => 0,
+        },
+    }
+}
+
+fn high_of(kind: Kind) -> u32
+    ensures { λ r. ⌜ r ≡ highOf kind ⌝ }
+{
+    match kind {
+        Kind::Msg => 0,
+        Kind::Nomsg => 0,
+        Kind::Error(e) => match e {
+            ErrorKind::Version(_, high) => high,
+            ErrorKind::Chunk => 0,
+        },
+    }
+}
+
 // Checks a frame.
 pub fn walk_frame(s: &[u8]) -> FrameWalk
     ensures { λ r. ⌜ r ≡ frameWalk (length (now (s .entry))) (readFrame (now (s .entry))) ⌝ }
@@ -232,6 +329,8 @@ pub fn walk_frame(s: &[u8]) -> FrameWalk
         return FrameWalk::Refused(OTHER_VERSION);
     }
     let procedure = wire::word_at(s, PROCEDURE_AT);
+    // Asked before the tests: behind them the compiler would take the word byte by byte.
+    let kind = lists_kind(procedure);
     if procedure == PROCEDURE_DONE {
         return FrameWalk::Refused(DONE_REFUSED);
     }
@@ -242,7 +341,7 @@ pub fn walk_frame(s: &[u8]) -> FrameWalk
         return FrameWalk::Refused(OTHER_PROCEDURE);
     }
     // The one place that walks the lists, for both kinds: the walk is then compiled in place.
-    let walk = walk_lists(s, lists_kind(procedure));
+    let walk = walk_lists(s, kind);
     if procedure == PROCEDURE_MSG {
         return walk;
     }
@@ -283,49 +382,6 @@ fn bare(kind: Kind, xid: u32, credit: u32, present: bool) -> Header
     }
 }
 
-// The header of a frame that was checked.
-fn fill_header(s: &[u8], shape: Shape) -> Header
-    requires { ⌜ frameWalk (length (now s)) (readFrame (now s)) ≡ FrameWalk.Found shape ⌝ }
-    ensures { λ r. ⌜ r ≡ readAnswer (readFrame (now (s .entry))) .header ⌝ }
-{
-    let kind = shape.kind;
-    let n = shape.reads;
-    let chunks = shape.chunks;
-    let m = shape.replies;
-    let z = Segment {
-        handle: 0,
-        length: 0,
-        offset: 0,
-    };
-    let segments = lists::fill_reads(&s[FIXED_BYTES..], n);
-    let reads = ReadList {
-        segments,
-        count: n as u32,
-    };
-    let w = EMPTY_READS_BYTES + n * lists::MARKED_ENTRY_BYTES;
-    let empty = WriteList {
-        segments: [z; 16],
-        counts: [0u32; 4],
-        chunks: chunks as u32,
-    };
-    let writes = lists::fill_writes(&s[w..], chunks, empty);
-    let end = shape.end;
-    let run = lists::fill_segments(s, end - m * wire::SEGMENT_BYTES, m, 0, [z; 16]);
-    let reply = ReplyChunk {
-        segments: run,
-        count: m as u32,
-        present: shape.present,
-    };
-    Header {
-        reads,
-        writes,
-        reply,
-        kind,
-        xid: wire::word_at(s, XID_AT),
-        credit: wire::word_at(s, CREDIT_AT),
-    }
-}
-
 // The number of a frame that was refused.
 pub fn frame_refusal(w: FrameWalk) -> u32
     ensures { λ r. ⌜ r ≡ frameRefusal w ⌝ }
@@ -336,36 +392,81 @@ pub fn frame_refusal(w: FrameWalk) -> u32
     }
 }
 
+// Decodes the header of a frame into the words that the caller lends. A frame that is refused leaves them as they were.
+pub fn decode_header(s: &[u8], words: &mut [u32; 238]) -> u32
+    ensures answer { λ r. ⌜ r ≡ readNumber (readFrame (now (s .entry))) ⌝ }
+    ensures words { λ _. ⌜ now (words .exit) ≡ readWords (readFrame (now (s .entry))) (now (words .entry)) ⌝ }
+{
+    let walk = walk_frame(s);
+    let FrameWalk::Found(shape) = walk else {
+        return frame_refusal(walk);
+    };
+    let kind = shape.kind;
+    let n = shape.reads;
+    let chunks = shape.chunks;
+    let m = shape.replies;
+    *words = [0u32; 238];
+    // The numbers before the lists, whose loops then have none of them to keep.
+    words[KIND_WORD_AT] = kind_number(kind);
+    words[LOW_WORD_AT] = low_of(kind);
+    words[HIGH_WORD_AT] = high_of(kind);
+    words[READ_COUNT_AT] = n as u32;
+    words[WRITE_CHUNKS_AT] = chunks as u32;
+    words[REPLY_PRESENT_AT] = wire::flag_number(shape.present);
+    words[REPLY_COUNT_AT] = m as u32;
+    words[XID_WORD_AT] = wire::word_at(s, XID_AT);
+    words[CREDIT_WORD_AT] = wire::word_at(s, CREDIT_AT);
+    let w = EMPTY_READS_BYTES + n * lists::MARKED_ENTRY_BYTES;
+    let p = shape.end - m * wire::SEGMENT_BYTES;
+    lists::decode_reads(&s[FIXED_BYTES..], n, &mut words[..]);
+    lists::decode_writes(&s[w..], chunks, &mut words[..], WRITES_AT, WRITE_COUNTS_AT);
+    lists::decode_segments(s, p, m, &mut words[..], REPLY_AT);
+    0
+}
+
+// The header that words hold. (Words that hold none, for a kind that no number names, give an empty one.)
+pub fn header_of(words: &[u32; 238]) -> Header
+    ensures { λ r. ⌜ ((h : Header) → headerIn (now (words .entry)) ≡ some h → r ≡ h) ⌝ }
+{
+    let known = kind_in(words[KIND_WORD_AT], words[LOW_WORD_AT], words[HIGH_WORD_AT]);
+    let Known::Is(kind) = known else {
+        return bare(Kind::Msg, 0, 0, false);
+    };
+    Header {
+        reads: ReadList {
+            segments: lists::reads_of(words),
+            count: words[READ_COUNT_AT],
+        },
+        writes: WriteList {
+            segments: lists::segments_of(words, WRITES_AT),
+            counts: [
+                words[WRITE_COUNTS_AT],
+                words[WRITE_COUNTS_AT + 1],
+                words[WRITE_COUNTS_AT + 2],
+                words[WRITE_COUNTS_AT + 3],
+            ],
+            chunks: words[WRITE_CHUNKS_AT],
+        },
+        reply: ReplyChunk {
+            segments: lists::segments_of(words, REPLY_AT),
+            count: words[REPLY_COUNT_AT],
+            present: words[REPLY_PRESENT_AT] == 1,
+        },
+        kind,
+        xid: words[XID_WORD_AT],
+        credit: words[CREDIT_WORD_AT],
+    }
+}
+
 // Reads the header of a frame.
 pub fn read_header(s: &[u8]) -> ReadAnswer
     ensures { λ r. ⌜ r ≡ readAnswer (readFrame (now (s .entry))) ⌝ }
 {
-    let walk = walk_frame(s);
-    let FrameWalk::Found(shape) = walk else {
-        return ReadAnswer {
-            header: bare(Kind::Msg, 0, 0, false),
-            number: frame_refusal(walk),
-        };
-    };
-    let n = shape.reads;
-    let chunks = shape.chunks;
-    let m = shape.replies;
-    let kind = shape.kind;
-    // Without entries there is nothing to fill: the short way for the commonest headers.
-    if n + chunks + m == 0 {
-        return ReadAnswer {
-            header: bare(
-                kind,
-                wire::word_at(s, XID_AT),
-                wire::word_at(s, CREDIT_AT),
-                shape.present,
-            ),
-            number: 0,
-        };
-    }
+    let mut words = [0u32; 238];
+    let number = decode_header(s, &mut words);
     ReadAnswer {
-        header: fill_header(s, shape),
-        number: 0,
+        header: header_of(&words),
+        number,
     }
 }
 
@@ -379,4 +480,36 @@ pub fn payload(s: &[u8]) -> &[u8]
     };
     let from = shape.end;
     &s[from..]
+}
+
+// The words of a header.
+pub fn words_of(h: Header) -> [u32; 238]
+    ensures { λ r. ⌜ r ≡ headerWords h ⌝ }
+{
+    let reads = h.reads;
+    let writes = h.writes;
+    let reply = h.reply;
+    let kind = h.kind;
+    let entries = reads.segments;
+    let chunks = writes.segments;
+    let counts = writes.counts;
+    let replies = reply.segments;
+    let mut words = [0u32; 238];
+    lists::store_reads(&mut words, entries);
+    lists::store_segments(&mut words, WRITES_AT, chunks);
+    lists::store_segments(&mut words, REPLY_AT, replies);
+    words[WRITE_COUNTS_AT] = counts[0];
+    words[WRITE_COUNTS_AT + 1] = counts[1];
+    words[WRITE_COUNTS_AT + 2] = counts[2];
+    words[WRITE_COUNTS_AT + 3] = counts[3];
+    words[READ_COUNT_AT] = reads.count;
+    words[WRITE_CHUNKS_AT] = writes.chunks;
+    words[REPLY_PRESENT_AT] = wire::flag_number(reply.present);
+    words[REPLY_COUNT_AT] = reply.count;
+    words[KIND_WORD_AT] = kind_number(kind);
+    words[LOW_WORD_AT] = low_of(kind);
+    words[HIGH_WORD_AT] = high_of(kind);
+    words[XID_WORD_AT] = h.xid;
+    words[CREDIT_WORD_AT] = h.credit;
+    words
 }

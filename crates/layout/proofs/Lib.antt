@@ -4,3 +4,6 @@ pub mod Remaining
 pub mod Stood
 pub mod Putting
 pub mod Seeking
+pub mod Placed
+pub mod Apart
+pub mod Once

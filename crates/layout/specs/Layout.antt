@@ -12,7 +12,7 @@ use Rattle.layout.specs.declared.Run.{Run}
 
 -- A run of places: where it begins, and how many they are. A chunk is one, at its position and of its total length.
 abbrev pub run : ℕ → ℕ → Run
-run at length = record { at = at; length = length }
+run start size = record { at = start; length = size }
 
 -- Whether any segment stands at position 0.
 unfoldable pub anyAtZero : List ReadSegment → Bool

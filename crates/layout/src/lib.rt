@@ -5,8 +5,9 @@ use wire::ReadSegment;
 ghost use mathlib.Core.Path.{_≡_};
 ghost use mathlib.Core.Bool.{true};
 ghost use Prim.Native.Nat.{_+_, _-_, _≤_, _<_};
-ghost use lib.ListN.{take};
+ghost use lib.ListN.{length, take};
 ghost use Rattle.lists.specs.Lists.{positionsNumber};
+ghost use Rattle.lists.specs.Words.{readsIn};
 ghost use Rattle.layout.specs.Layout.{otherChunks, roundedUp, kindFits};
 ghost use Rattle.layout.specs.Walks.{sumsWith, sumsOf, endedLength, joinedRun, Near, standingOf, measuredOf, measuredNumber};
 
@@ -55,19 +56,19 @@ pub fn wide(x: u32) -> usize
 }
 
 // A length, rounded up to a multiple of 4. A read list has less than 16 times 2^32 bytes; the bound leaves room for rounding.
-pub fn rounded(length: usize) -> usize
-    requires { ⌜ length ≤ 68719476800 ⌝ }
-    ensures { λ r. ⌜ (r ≡ roundedUp length) × (length ≤ r) × (r ≤ length + 3) ⌝ }
+pub fn rounded(size: usize) -> usize
+    requires { ⌜ size ≤ 68719476800 ⌝ }
+    ensures { λ r. ⌜ (r ≡ roundedUp size) × (size ≤ r) × (r ≤ size + 3) ⌝ }
 {
-    (length + 3) / UNIT_BYTES * UNIT_BYTES
+    (size + 3) / UNIT_BYTES * UNIT_BYTES
 }
 
 // "then Ri - Li zero bytes": how many they are.
-pub fn padding(length: usize) -> usize
-    requires { ⌜ length ≤ 68719476800 ⌝ }
-    ensures { λ r. ⌜ (r ≡ roundedUp length - length) × (r ≤ 3) ⌝ }
+pub fn padding(size: usize) -> usize
+    requires { ⌜ size ≤ 68719476800 ⌝ }
+    ensures { λ r. ⌜ (r ≡ roundedUp size - size) × (r ≤ 3) ⌝ }
 {
-    rounded(length) - length
+    rounded(size) - size
 }
 
 // A segment more.
@@ -93,9 +94,9 @@ fn add_sums(s: Sums, x: ReadSegment) -> Sums
 }
 
 // What the first n segments make together.
-pub fn sums_of(segments: [ReadSegment; 16], n: usize) -> Sums
-    requires { ⌜ n ≤ 16 ⌝ }
-    ensures { λ r. ⌜ r ≡ sumsOf (take n segments) ⌝ }
+pub fn sums_of(words: &[u32], n: usize) -> Sums
+    requires { ⌜ (n ≤ 16) × (96 ≤ length (now words)) ⌝ }
+    ensures { λ r. ⌜ r ≡ sumsOf (take n (readsIn (now (words .entry)))) ⌝ }
 {
     let mut s = Sums {
         zero_length: 0,
@@ -103,7 +104,7 @@ pub fn sums_of(segments: [ReadSegment; 16], n: usize) -> Sums
         all_length: 0,
     };
     for i in 0..n {
-        let x = segments[i];
+        let x = lists::segment_of(words, i);
         s = add_sums(s, x);
     }
     s
@@ -146,14 +147,14 @@ pub fn joined(w: Run, x: ReadSegment) -> Run
 }
 
 // Whether each chunk stands behind the former one and within the base.
-fn chunks_stand(segments: [ReadSegment; 16], n: usize, base: usize) -> Standing
-    requires { ⌜ (n ≤ 16) × (positionsNumber 0 (take n segments) 0 ≡ 0) ⌝ }
-    ensures { λ r. ⌜ r ≡ standingOf base (otherChunks (take n segments)) ⌝ }
+fn chunks_stand(words: &[u32], n: usize, base: usize) -> Standing
+    requires { ⌜ (n ≤ 16) × (positionsNumber 0 (take n (readsIn (now words))) 0 ≡ 0) × (96 ≤ length (now words)) ⌝ }
+    ensures { λ r. ⌜ r ≡ standingOf base (otherChunks (take n (readsIn (now (words .entry))))) ⌝ }
 {
     let mut w = Run { at: 0, length: 0 };
     let mut earlier = 0;
     for i in 0..n {
-        let x = segments[i];
+        let x = lists::segment_of(words, i);
         let position = wide(x.position);
         let size = rounded(ended(w, x));
         if position < w.at + size {
@@ -193,12 +194,12 @@ pub fn measure(
     kind: Kind,
     base: usize,
     any_zero: bool,
-    segments: [ReadSegment; 16],
+    words: &[u32],
     n: usize,
     room: usize,
 ) -> Measured
-    requires { ⌜ (n ≤ 16) × (positionsNumber 0 (take n segments) 0 ≡ 0) ⌝ }
-    ensures { λ r. ⌜ r ≡ measuredOf kind base «any_zero» (otherChunks (take n segments)) room ⌝ }
+    requires { ⌜ (n ≤ 16) × (positionsNumber 0 (take n (readsIn (now words))) 0 ≡ 0) × (96 ≤ length (now words)) ⌝ }
+    ensures { λ r. ⌜ r ≡ measuredOf kind base «any_zero» (otherChunks (take n (readsIn (now (words .entry))))) room ⌝ }
 {
     if !kind_fits(kind, any_zero) {
         return Measured::Refused(wire::KIND_AND_LISTS);
@@ -206,7 +207,7 @@ pub fn measure(
     if base % UNIT_BYTES != 0 {
         return Measured::Refused(BASE_UNALIGNED);
     }
-    let stood = chunks_stand(segments, n, base);
+    let stood = chunks_stand(words, n, base);
     let Standing::Stands(size) = stood else {
         return Measured::Refused(CHUNK_OVERLAPS);
     };

@@ -1,6 +1,7 @@
 -- What a list that was read says of the bytes it was read from: how long it is, where its entries stand, what is behind it.
 -- Assumes nothing.
 use mathlib.Core.Path.{_≡_, refl, sym, ap, subst, _∙_}
+use mathlib.Core.Bool.{true}
 use mathlib.Core.List.{List, [], _∷_}
 use mathlib.Core.Option.{none, some}
 use Prim.Native.Nat.{ℕ, zero, suc, _+_, _-_, _*_, _/_, _%_, _≤_, _<_}
@@ -14,7 +15,8 @@ use Rattle.wire.specs.declared.Segment.{Segment}
 use Rattle.wire.specs.declared.ReadSegment.{ReadSegment}
 use Rattle.lists.specs.Parsed.{Parsed, refused, done, prepend, each}
 use Rattle.lists.specs.Lists.{markerOf, readList, positionsNumber, counted, writeList, replyChunk}
-use Rattle.lists.specs.Steps.{chunkStep, listWalk, packedWalk, markedSegmentAt, chunksAt, ChunksFit}
+use Rattle.lists.specs.Steps.{isEnd, chunkStep, listWalk, packedWalk, markedSegmentAt, chunksAt, ChunksFit}
+use Rattle.lists.specs.declared.Marker.{Marker}
 use Rattle.lists.specs.declared.Marker.the-variants as marker
 use Rattle.lists.specs.declared.ChunkStep.the-variants as chunk
 use Rattle.lists.specs.declared.ListWalk.the-variants as walk
@@ -283,6 +285,27 @@ module _ (s : List ℕ) (r : ℕ) (e : r ≡ packedWalk (λ cs. (4 - 4 + length 
       let left : length s - 4 - r / 32 * 8 - r % 32 * 16 ≡ length (k .behind) = omega (arith, a .sized) in
       let same : r / 32 ≡ 0 + length (k .list) = omega arith in
       (omega (arith, a .sized), rw (k .read, left) (ap (λ (n : ℕ). walk.Done n (length (k .behind))) same))
+
+-- An empty list, by its marker.
+module _ (s : List ℕ) (m : Marker) (is : m ≡ markerOf s) (ended : isEnd m ≡ true) where
+  end-is : markerOf s ≡ marker.End
+  end-is = sym is ∙ go m ended
+    where
+      go : (m : Marker) → isEnd m ≡ true → m ≡ marker.End
+      go (marker.Refused n) e = absurd (let z : _≡_ {A = ℕ} 0 1 = cc in omega arith)
+      go marker.End e = refl
+      go marker.Entry e = absurd (let z : _≡_ {A = ℕ} 0 1 = cc in omega arith)
+
+  none-listed : {A : Type 0} (p : Parsed (List A)) → p ≡ done [] (drop 4 s) → (4 ≤ length s) × (walk.Done 0 (length s - 4) ≡ listWalk 0 p)
+  unfolding listWalk
+  none-listed p e = (end-room s end-is, rw (e, length-drop 4 s))
+
+  pub no-entries : (4 ≤ length s) × (walk.Done 0 (length s - 4) ≡ listWalk 0 (readList 16 0 s))
+  unfolding readList
+  no-entries = none-listed (readList 16 0 s) (rw end-is)
+
+  pub no-chunks : (4 ≤ length s) × (walk.Done 0 (length s - 4) ≡ listWalk 0 (writeList 4 16 s))
+  no-chunks = none-listed (writeList 4 16 s) (writes-end 16 s 4 end-is)
 
 -- The reply chunk behind a marker 1.
 pub reply-chunk : (s : List ℕ) (c : List Segment) (u : List ℕ) → markerOf s ≡ marker.Entry → counted 16 (drop 4 s) ≡ done c u → replyChunk s ≡ done (some c) u

@@ -1,13 +1,13 @@
 -- Laws about items that stand one behind the other, and about storing them one by one.
 -- Assumes nothing.
 use mathlib.Core.Path.{_≡_, refl, ap, _∙_}
-use mathlib.Core.List.{List, [], _∷_}
+use mathlib.Core.List.{List, [], _∷_, append-nil}
 use Prim.Native.Nat.{ℕ, zero, suc, _+_, _*_, _≤_, _<_}
-use native.Mathlib.Nat.{zero-mul, suc-mul}
+use native.Mathlib.Nat.{zero-add, zero-mul, suc-mul}
 use native.Mathlib.Numerals.{add-one}
 use native.Mathlib.Omega.{arith}
 use lib.ListN.{length, take, drop, set, getD}
-use lib.Seq.{take-all, take-suc, drop-drop, drop-cons, getD-take, length-take-le}
+use lib.Seq.{take-all, take-suc, drop-drop, drop-cons, drop-length, getD-take, length-take-le, sets-eq}
 use Rattle.wire.specs.Wire.{stored}
 use Rattle.wire.proofs.Laws.{stored-append}
 use Rattle.lists.specs.Parsed.{each}
@@ -40,6 +40,11 @@ module _ {A : Type 0} (l xs to : List A) (i k : ℕ) (so-far : to ≡ stored l i
 
   pub fill-all : length xs ≤ k → to ≡ stored l i xs
   fill-all h = so-far ∙ rw (take-all k xs h)
+
+-- A run as long as the array is the array.
+pub stored-whole : {A : Type 0} (l xs : List A) → length xs ≡ length l → stored l 0 xs ≡ xs
+unfolding stored
+stored-whole l xs e = sets-eq xs l 0 (omega arith) ∙ rw (zero-add, e, drop-length l) (append-nil xs)
 
 pub fill-none : {A : Type 0} (l xs : List A) (i : ℕ) → l ≡ stored l i (take 0 xs)
 unfolding stored

@@ -2,28 +2,27 @@
 -- Assumes nothing.
 use mathlib.Core.Path.{_≡_, refl, sym, ap, subst, _∙_}
 use mathlib.Core.Bool.{Bool, true, false, cond}
-use mathlib.Core.List.{List, [], _∷_, map}
+use mathlib.Core.List.{List, [], _∷_}
 use Prim.Native.Nat.{ℕ, zero, suc, _+_, _-_, _*_, _%_, _≤_, _<_}
 use native.Mathlib.Omega.{arith}
 use borrow.Author.Tests.{leb-true, eqb-true, eqb-false, ne-eqb, le-leb, lt-leb}
-use lib.ListN.{length, drop, set, length-drop}
+use lib.ListN.{length, drop, length-drop}
 use lib.Seq.{drop-drop}
 use lib.Dec.{leb, eqb, eqb·suc-zero}
-use Rattle.wire.specs.Wire.{wordAt, wordOf, segmentAt, readSegmentAt, stored, joined}
+use Rattle.wire.specs.Wire.{wordAt, wordOf, segmentAt, readSegmentAt}
 use Rattle.wire.specs.declared.Word.{Word}
 use Rattle.wire.specs.declared.Word.the-variants as word
 use Rattle.wire.specs.declared.Segment.{Segment}
 use Rattle.wire.specs.declared.ReadSegment.{ReadSegment}
 use Rattle.lists.specs.Parsed.{Parsed, refused, done, andThen, require, prepend, each}
 use Rattle.lists.specs.Lists.{markerWord, markerOf, readEntry, readList, segments, afterWord, counted, writeList}
-use Rattle.lists.specs.Steps.{readStep, countStep, chunkStep, packedWalk, chunksAt, ChunksFit, withChunks}
+use Rattle.lists.specs.Steps.{readStep, countStep, chunkStep, packedWalk, chunksAt, ChunksFit}
 use Rattle.lists.specs.declared.Marker.{Marker}
 use Rattle.lists.specs.declared.Marker.the-variants as marker
 use Rattle.lists.specs.declared.ReadStep.the-variants as read
 use Rattle.lists.specs.declared.ChunkStep.the-variants as chunk
-use Rattle.lists.specs.declared.WriteList.{WriteList}
-use Rattle.wire.proofs.Laws.{word-drop, read-segment-drop, stored-append}
-use Rattle.lists.proofs.Items.{length-each, store-cons}
+use Rattle.wire.proofs.Laws.{word-drop, read-segment-drop}
+use Rattle.lists.proofs.Items.{length-each}
 
 -- A refusal is no value.
 pub never : {A : Type 0} {n : ℕ} {a : A} {t : List ℕ} → refused n ≡ done a t → ⊥
@@ -405,72 +404,45 @@ module _ (n : ℕ) (some-left : n ≡ 0 → ⊥) (s : List ℕ) where
       go zero h f = absurd (h refl)
       go (suc m) h f = let e : suc m - 1 ≡ m = omega arith in rw e f
 
--- A write list with no chunks stored, and with one more.
-pub with-none : (before used : ℕ) (w : WriteList) (s : List ℕ) → w ≡ withChunks before used w (chunksAt 0 s)
-unfolding withChunks stored joined chunksAt
-with-none before used w s = refl
-
-pub with-next : (before used d : ℕ) (w : WriteList) (c filled : List Segment) (cs : List (List Segment)) → d ≡ length c → filled ≡ stored (w .segments) used c →
-    withChunks (before + 1) (used + d) (record { segments = filled; counts = set (w .counts) before d; chunks = w .chunks }) cs
-    ≡ withChunks before used w (c ∷ cs)
-unfolding withChunks joined
-with-next before used d w c filled cs e f =
-    rw (e, f, stored-append (w .segments) used c (joined (λ x. x) cs), store-cons (w .counts) before (length c) (map length cs))
-
--- A write list that is being filled chunk by chunk: what is still to be stored leads to the whole.
-pub record Filling (s : List ℕ) (n : ℕ) (list w : WriteList) (from used i : ℕ) : Type 0 where
+-- A loop over the chunks of a write list that was checked: it has passed i of them with `used` segments and stands at byte `from`.
+pub record Passing (s : List ℕ) (n from used i : ℕ) : Type 0 where
   pub within : i ≤ n
   pub few : used ≤ 16
   pub there : from ≤ length s
   pub fits : ChunksFit (n - i) (16 - used) (drop from s)
-  pub rest : withChunks i used w (chunksAt (n - i) (drop from s)) ≡ withChunks 0 0 list (chunksAt n s)
 
-pub filling-starts : (s : List ℕ) (n : ℕ) (list : WriteList) → ChunksFit n 16 s → Filling s n list list 0 0 0
-filling-starts s n list fits =
+pub passing-starts : (s : List ℕ) (n : ℕ) → ChunksFit n 16 s → Passing s n 0 0 0
+passing-starts s n fits =
     let all : n - 0 ≡ n = omega arith in
-    record {
-      within = omega arith;
-      few = omega arith;
-      there = omega arith;
-      fits = rw all fits;
-      rest = rw all;
-    }
+    record { within = omega arith; few = omega arith; there = omega arith; fits = rw all fits }
 
-module _ (s : List ℕ) (n : ℕ) (list w : WriteList) (from used i : ℕ) (f : Filling s n list w from used i) where
-  module _ (more : i < n) (d : ℕ) (is : d ≡ wordAt s (from + 4)) where
-    left : n - i ≡ 0 → ⊥
-    left e = omega arith
+module _ (s : List ℕ) (n from used i : ℕ) (p : Passing s n from used i) (more : i < n) (d : ℕ) (is : d ≡ wordAt s (from + 4)) where
+  left : n - i ≡ 0 → ⊥
+  left e = omega arith
 
-    word-is-there : wordAt (drop from s) 4 ≡ d
-    word-is-there = word-drop from 4 s ∙ sym is
+  word-is-there : wordAt (drop from s) 4 ≡ d
+  word-is-there = word-drop from 4 s ∙ sym is
 
-    next-fits : (8 + d * 16 ≤ length (drop from s)) × (d ≤ 16 - used) × ChunksFit (n - i - 1) (16 - used - d) (drop (8 + d * 16) (drop from s))
-    next-fits = subst (λ (k : ℕ). (8 + k * 16 ≤ length (drop from s)) × (k ≤ 16 - used) × ChunksFit (n - i - 1) (16 - used - k) (drop (8 + k * 16) (drop from s))) word-is-there (fit-next (n - i) left (drop from s) (16 - used) (f .fits))
+  next-fits : (8 + d * 16 ≤ length (drop from s)) × (d ≤ 16 - used) × ChunksFit (n - i - 1) (16 - used - d) (drop (8 + d * 16) (drop from s))
+  next-fits = subst (λ (k : ℕ). (8 + k * 16 ≤ length (drop from s)) × (k ≤ 16 - used) × ChunksFit (n - i - 1) (16 - used - k) (drop (8 + k * 16) (drop from s))) word-is-there (fit-next (n - i) left (drop from s) (16 - used) (p .fits))
 
-    pub filling-fits : (from + (8 + d * 16) ≤ length s) × (used + d ≤ 16)
-    filling-fits = let there = f .there in let few = f .few in (omega (arith, next-fits .0, length-drop from s), omega (arith, next-fits .1))
+  pub passing-fits : (from + (8 + d * 16) ≤ length s) × (used + d ≤ 16)
+  passing-fits = let there = p .there in let few = p .few in (omega (arith, next-fits .0, length-drop from s), omega (arith, next-fits .1))
 
-    pub filling-next : (filled : List Segment) → filled ≡ stored (w .segments) used (each 16 (λ t. segmentAt t 0) d (drop (from + 8) s)) →
-        Filling s n list (record { segments = filled; counts = set (w .counts) i d; chunks = w .chunks }) (from + (8 + d * 16)) (used + d) (i + 1)
-    filling-next filled e =
-        let fewer : n - i - 1 ≡ n - (i + 1) = omega arith in
-        let room : 16 - used - d ≡ 16 - (used + d) = omega arith in
-        let further : drop (8 + d * 16) (drop from s) ≡ drop (from + (8 + d * 16)) s = drop-drop (8 + d * 16) from s in
-        let many : length (each 16 (λ t. segmentAt t 0) d (drop 8 (drop from s))) ≡ d = length-each 16 (λ t. segmentAt t 0) d (drop 8 (drop from s)) in
-        let there : filled ≡ stored (w .segments) used (each 16 (λ t. segmentAt t 0) d (drop 8 (drop from s))) = e ∙ ap (λ (u : List ℕ). stored (w .segments) used (each 16 (λ t. segmentAt t 0) d u)) (sym (drop-drop 8 from s)) in
-        let step = with-next i used d w (each 16 (λ t. segmentAt t 0) d (drop 8 (drop from s))) filled (chunksAt (n - i - 1) (drop (8 + d * 16) (drop from s))) (sym many) there in
-        let first : chunksAt (n - i) (drop from s) ≡ each 16 (λ t. segmentAt t 0) d (drop 8 (drop from s)) ∷ chunksAt (n - i - 1) (drop (8 + d * 16) (drop from s)) =
-        subst (λ (k : ℕ). chunksAt (n - i) (drop from s) ≡ each 16 (λ t. segmentAt t 0) k (drop 8 (drop from s)) ∷ chunksAt (n - i - 1) (drop (8 + k * 16) (drop from s))) word-is-there (chunks-next (n - i) left (drop from s)) in
-        let whole = step ∙ ap (withChunks i used w) (sym first) ∙ f .rest in
-        record {
-          within = omega arith;
-          few = filling-fits .1;
-          there = filling-fits .0;
-          fits = rw (← fewer, ← room, ← further) (next-fits .2);
-          rest = rw (← fewer, ← further) whole;
-        }
+  pub passing-next : Passing s n (from + (8 + d * 16)) (used + d) (i + 1)
+  passing-next =
+      let fewer : n - i - 1 ≡ n - (i + 1) = omega arith in
+      let room : 16 - used - d ≡ 16 - (used + d) = omega arith in
+      record {
+        within = omega arith;
+        few = passing-fits .1;
+        there = passing-fits .0;
+        fits = rw (← fewer, ← room, ← (drop-drop (8 + d * 16) from s)) (next-fits .2);
+      }
 
-  pub filling-ends : n ≤ i → w ≡ withChunks 0 0 list (chunksAt n s)
-  filling-ends h =
-      let all : n - i ≡ 0 = omega arith in
-      with-none i used w (drop from s) ∙ ap (λ (k : ℕ). withChunks i used w (chunksAt k (drop from s))) (sym all) ∙ f .rest
+  -- The chunk that it passes, and those behind.
+  pub passing-chunk : chunksAt (n - i) (drop from s) ≡ each 16 (λ t. segmentAt t 0) d (drop (from + 8) s) ∷ chunksAt (n - (i + 1)) (drop (from + (8 + d * 16)) s)
+  passing-chunk =
+      let fewer : n - i - 1 ≡ n - (i + 1) = omega arith in
+      rw (← fewer, ← (drop-drop 8 from s), ← (drop-drop (8 + d * 16) from s))
+      (subst (λ (k : ℕ). chunksAt (n - i) (drop from s) ≡ each 16 (λ t. segmentAt t 0) k (drop 8 (drop from s)) ∷ chunksAt (n - i - 1) (drop (8 + k * 16) (drop from s))) word-is-there (chunks-next (n - i) left (drop from s)))

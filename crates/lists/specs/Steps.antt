@@ -1,10 +1,10 @@
 -- What the functions under the readers answer, case by case, from the definitions of the lists. Only internal contracts cite these.
 use Prim.Native.Nat.{ℕ, zero, suc, _+_, _-_, _*_, _≤_}
-use mathlib.Core.Bool.{cond}
-use mathlib.Core.List.{List, [], _∷_, map}
-use lib.ListN.{length, drop, replicate}
+use mathlib.Core.Bool.{Bool, true, false, cond}
+use mathlib.Core.List.{List, [], _∷_}
+use lib.ListN.{length, drop}
 use lib.Dec.{eqb}
-use Rattle.wire.specs.Wire.{wordAt, segmentAt, readSegmentAt, stored, joined, zeroReadSegment}
+use Rattle.wire.specs.Wire.{wordAt, segmentAt, readSegmentAt}
 use Rattle.wire.specs.declared.Segment.{Segment}
 use Rattle.wire.specs.declared.ReadSegment.{ReadSegment}
 use Rattle.lists.specs.Parsed.{Parsed, refused, done, each}
@@ -17,7 +17,12 @@ use Rattle.lists.specs.declared.ChunkStep.{ChunkStep}
 use Rattle.lists.specs.declared.ChunkStep.the-variants as chunk
 use Rattle.lists.specs.declared.ListWalk.{ListWalk}
 use Rattle.lists.specs.declared.ListWalk.the-variants as walk
-use Rattle.lists.specs.declared.WriteList.{WriteList}
+
+-- Whether a marker ends its list.
+abbrev pub isEnd : Marker → Bool
+isEnd (marker.Refused n) = false
+isEnd marker.End = true
+isEnd marker.Entry = false
 
 -- An entry of the read list: its position, or the number.
 abbrev pub entryStep : Parsed ReadSegment → ReadStep
@@ -62,15 +67,6 @@ ChunksFit zero left s = Unit {0}
 ChunksFit (suc n) left s =
     (8 + wordAt s 4 * 16 ≤ length s) × (wordAt s 4 ≤ left) × ChunksFit n (left - wordAt s 4) (drop (8 + wordAt s 4 * 16) s)
 
--- A write list with chunks cs stored behind `before` chunks of `segments` segments.
-unfoldable pub withChunks : ℕ → ℕ → WriteList → List (List Segment) → WriteList
-withChunks before segments w cs =
-    record { segments = stored (w .segments) segments (joined (λ c. c) cs); counts = stored (w .counts) before (map length cs); chunks = w .chunks }
-
 -- The read segment behind a marker.
 abbrev pub markedSegmentAt : List ℕ → ReadSegment
 markedSegmentAt s = readSegmentAt s 4
-
--- The places of a read list before anything is stored.
-abbrev pub zeroReads : List ReadSegment
-zeroReads = replicate 16 zeroReadSegment

@@ -4,12 +4,13 @@ use wire::ReadSegment;
 use wire::Segment;
 use wire::Word;
 ghost use mathlib.Core.Path.{_≡_};
-ghost use Prim.Native.Nat.{_+_, _*_, _-_, _≤_};
-ghost use lib.ListN.{length, take, drop};
-ghost use Rattle.wire.specs.Wire.{segmentAt, stored, joined};
+ghost use Prim.Native.Nat.{_+_, _*_, _-_, _/_, _≤_, _<_};
+ghost use lib.ListN.{length, take, drop, getD};
+ghost use Rattle.wire.specs.Wire.{segmentAt, stored, joined, zeroReadSegment};
 ghost use Rattle.lists.specs.Parsed.{each};
 ghost use Rattle.lists.specs.Lists.{markerOf, readEntry, readList, positionsNumber, counted, writeList};
-ghost use Rattle.lists.specs.Steps.{entryStep, readStep, countStep, chunkStep, listWalk, packedWalk, markedSegmentAt, zeroReads, chunksAt, ChunksFit, withChunks};
+ghost use Rattle.lists.specs.Steps.{isEnd, entryStep, readStep, countStep, chunkStep, listWalk, packedWalk, markedSegmentAt, chunksAt, ChunksFit};
+ghost use Rattle.lists.specs.Words.{readsIn, readsWords, segmentsIn, segmentsWords, withWrites};
 
 // "Limits: 16 read segments; 4 write chunks holding 16 segments together; 16 segments in the reply chunk"
 pub const READ_SEGMENTS: usize = 16;
@@ -104,6 +105,25 @@ pub fn read_marker(s: &[u8]) -> Marker
     Marker::Refused(BAD_MARKER)
 }
 
+// Whether a marker ends its list.
+fn is_end(marker: Marker) -> bool
+    ensures { λ r. ⌜ r ≡ isEnd marker ⌝ }
+{
+    match marker {
+        Marker::End => true,
+        Marker::Entry => false,
+        Marker::Refused(_) => false,
+    }
+}
+
+// A position rounded up to a multiple of 4.
+fn rounded(position: u32) -> u64
+    ensures { λ r. ⌜ r ≡ (position + 3) / 4 * 4 ⌝ }
+{
+    let unit = POSITION_UNIT as u64;
+    (position as u64 + (unit - 1)) / unit * unit
+}
+
 // The read entry at the front of s, behind an entry at the position `last`.
 fn read_entry(s: &[u8], last: u32) -> ReadStep
     ensures { λ r. ⌜ r ≡ entryStep (readEntry last (now (s .entry))) ⌝ }
@@ -112,7 +132,10 @@ fn read_entry(s: &[u8], last: u32) -> ReadStep
         return ReadStep::Refused(wire::ENDS_INSIDE_FIELD);
     }
     let position = wire::word_at(s, 0);
-    if position % POSITION_UNIT != 0 {
+    // Told by rounding up: asked for the remainder, the compiler would take the word byte by byte.
+    let up = rounded(position);
+    let p = position as u64;
+    if up != p {
         return ReadStep::Refused(POSITION_UNALIGNED);
     }
     if position < last {
@@ -156,6 +179,10 @@ fn walk_entries(s: &[u8], room: usize, last: u32) -> usize
 pub fn walk_reads(s: &[u8]) -> ListWalk
     ensures { λ r. ⌜ r ≡ listWalk 0 (readList 16 0 (now (s .entry))) ⌝ }
 {
+    // The commonest list is empty: known without a call.
+    if is_end(read_marker(s)) {
+        return ListWalk::Done(0, s.len() - wire::WORD_BYTES);
+    }
     let answer = walk_entries(s, READ_SEGMENTS, 0);
     if REFUSED <= answer {
         return ListWalk::Refused((answer - REFUSED) as u32);
@@ -224,6 +251,9 @@ fn walk_chunks(s: &[u8], room: usize, left: usize) -> usize
 pub fn walk_writes(s: &[u8]) -> ListWalk
     ensures { λ r. ⌜ r ≡ listWalk 0 (writeList 4 16 (now (s .entry))) ⌝ }
 {
+    if is_end(read_marker(s)) {
+        return ListWalk::Done(0, s.len() - wire::WORD_BYTES);
+    }
     let answer = walk_chunks(s, WRITE_CHUNKS, WRITE_SEGMENTS);
     if REFUSED <= answer {
         return ListWalk::Refused((answer - REFUSED) as u32);
@@ -236,10 +266,18 @@ pub fn walk_writes(s: &[u8]) -> ListWalk
     )
 }
 
-// The n entries of a read list that was checked.
-pub fn fill_reads(s: &[u8], n: usize) -> [ReadSegment; 16]
-    requires { ⌜ (n ≤ 16) × (n * 24 ≤ length (now s)) ⌝ }
-    ensures { λ r. ⌜ r ≡ stored zeroReads 0 (each 24 markedSegmentAt n (now (s .entry))) ⌝ }
+// Read segment i of the list at the front of the words.
+pub fn segment_of(words: &[u32], i: usize) -> ReadSegment
+    requires { ⌜ (i < 16) × (96 ≤ length (now words)) ⌝ }
+    ensures { λ r. ⌜ r ≡ getD (readsIn (now (words .entry))) i zeroReadSegment ⌝ }
+{
+    wire::read_segment_in(words, i * wire::READ_SEGMENT_WORDS)
+}
+
+// All places of the read list at the front of the words.
+pub fn reads_of(words: &[u32]) -> [ReadSegment; 16]
+    requires { ⌜ 96 ≤ length (now words) ⌝ }
+    ensures { λ r. ⌜ r ≡ readsIn (now (words .entry)) ⌝ }
 {
     let none = ReadSegment {
         position: 0,
@@ -250,63 +288,37 @@ pub fn fill_reads(s: &[u8], n: usize) -> [ReadSegment; 16]
         },
     };
     let mut to = [none; 16];
-    for k in 0..n {
-        to[k] = wire::read_segment_at(s, k * MARKED_ENTRY_BYTES + wire::WORD_BYTES);
+    for k in 0..READ_SEGMENTS {
+        to[k] = segment_of(words, k);
     }
     to
 }
 
-// The n segments from `from` on, stored behind `i` others.
-pub fn fill_segments(
-    s: &[u8],
-    from: usize,
-    n: usize,
-    i: usize,
-    segments: [Segment; 16],
-) -> [Segment; 16]
-    requires { ⌜ (from + n * 16 ≤ length (now s)) × (i + n ≤ 16) ⌝ }
-    ensures { λ r. ⌜ r ≡ stored segments i (each 16 (λ t. segmentAt t 0) n (drop from (now (s .entry)))) ⌝ }
+// All places of a write list or a reply chunk in the words from `from` on.
+pub fn segments_of(words: &[u32], from: usize) -> [Segment; 16]
+    requires { ⌜ from + 64 ≤ length (now words) ⌝ }
+    ensures { λ r. ⌜ r ≡ segmentsIn from (now (words .entry)) ⌝ }
 {
-    let mut to = segments;
-    for k in 0..n {
-        to[i + k] = wire::segment_at(s, from + k * wire::SEGMENT_BYTES);
+    let none = Segment {
+        handle: 0,
+        length: 0,
+        offset: 0,
+    };
+    let mut to = [none; 16];
+    for k in 0..WRITE_SEGMENTS {
+        to[k] = wire::segment_in(words, from + k * wire::SEGMENT_WORDS);
     }
     to
-}
-
-// The n chunks of a write list that was checked, stored into an empty one.
-pub fn fill_writes(s: &[u8], n: usize, list: WriteList) -> WriteList
-    requires { ⌜ (n ≤ 4) × ChunksFit n 16 (now s) ⌝ }
-    ensures { λ r. ⌜ r ≡ withChunks 0 0 list (chunksAt n (now (s .entry))) ⌝ }
-{
-    let mut segments = list.segments;
-    let mut counts = list.counts;
-    let mut from = 0;
-    let mut used = 0;
-    for i in 0..n {
-        let count = wire::word_at(s, from + wire::WORD_BYTES);
-        let d = count as usize;
-        counts[i] = count;
-        let filled = fill_segments(s, from + CHUNK_HEAD_BYTES, d, used, segments);
-        segments = filled;
-        from += CHUNK_HEAD_BYTES + d * wire::SEGMENT_BYTES;
-        used += d;
-    }
-    WriteList {
-        segments,
-        counts,
-        chunks: list.chunks,
-    }
 }
 
 // The number of the first read entry at fault, or 0.
-pub fn positions_number(segments: [ReadSegment; 16], n: usize) -> u32
-    requires { ⌜ n ≤ 16 ⌝ }
-    ensures { λ r. ⌜ r ≡ positionsNumber 0 (take n segments) 0 ⌝ }
+pub fn positions_in(words: &[u32], n: usize) -> u32
+    requires { ⌜ (n ≤ 16) × (96 ≤ length (now words)) ⌝ }
+    ensures { λ r. ⌜ r ≡ positionsNumber 0 (take n (readsIn (now (words .entry)))) 0 ⌝ }
 {
     let mut last: u32 = 0;
     for k in 0..n {
-        let x = segments[k];
+        let x = segment_of(words, k);
         let p = x.position;
         if p % POSITION_UNIT != 0 {
             return POSITION_UNALIGNED;
@@ -317,4 +329,66 @@ pub fn positions_number(segments: [ReadSegment; 16], n: usize) -> u32
         last = p;
     }
     0
+}
+
+// Decodes the n entries of a read list that was checked into the words, from the first on.
+pub fn decode_reads(s: &[u8], n: usize, words: &mut [u32])
+    requires { ⌜ (n ≤ 16) × (n * 24 ≤ length (now s)) × (96 ≤ length (now words)) ⌝ }
+    ensures { λ _. ⌜ now (words .exit) ≡ stored (now (words .entry)) 0 (readsWords (each 24 markedSegmentAt n (now (s .entry)))) ⌝ }
+{
+    for k in 0..n {
+        let x = wire::read_segment_at(s, k * MARKED_ENTRY_BYTES + wire::WORD_BYTES);
+        wire::store_read_segment(words, k * wire::READ_SEGMENT_WORDS, x);
+    }
+}
+
+// Decodes the n segments from byte `from` on into the words from `to` on.
+pub fn decode_segments(s: &[u8], from: usize, n: usize, words: &mut [u32], to: usize)
+    requires { ⌜ (n ≤ 16) × (from + n * 16 ≤ length (now s)) × (to + n * 4 ≤ length (now words)) ⌝ }
+    ensures { λ _. ⌜ now (words .exit) ≡ stored (now (words .entry)) to (segmentsWords (each 16 (λ t. segmentAt t 0) n (drop from (now (s .entry))))) ⌝ }
+{
+    for k in 0..n {
+        let x = wire::segment_at(s, from + k * wire::SEGMENT_BYTES);
+        wire::store_segment(words, to + k * wire::SEGMENT_WORDS, x);
+    }
+}
+
+// Stores the places of a read list into the words, from the first on.
+pub fn store_reads(words: &mut [u32], segments: [ReadSegment; 16])
+    requires { ⌜ 96 ≤ length (now words) ⌝ }
+    ensures { λ _. ⌜ now (words .exit) ≡ stored (now (words .entry)) 0 (readsWords segments) ⌝ }
+{
+    for k in 0..READ_SEGMENTS {
+        let x = segments[k];
+        wire::store_read_segment(words, k * wire::READ_SEGMENT_WORDS, x);
+    }
+}
+
+// Stores the places of a write list or a reply chunk into the words from `to` on.
+pub fn store_segments(words: &mut [u32], to: usize, segments: [Segment; 16])
+    requires { ⌜ to + 64 ≤ length (now words) ⌝ }
+    ensures { λ _. ⌜ now (words .exit) ≡ stored (now (words .entry)) to (segmentsWords segments) ⌝ }
+{
+    for k in 0..WRITE_SEGMENTS {
+        let x = segments[k];
+        wire::store_segment(words, to + k * wire::SEGMENT_WORDS, x);
+    }
+}
+
+// Decodes the n chunks of a write list that was checked: their segments into the words from `to` on, and how many each has into
+// those from `counts` on.
+pub fn decode_writes(s: &[u8], n: usize, words: &mut [u32], to: usize, counts: usize)
+    requires { ⌜ (n ≤ 4) × ChunksFit n 16 (now s) × (to + 64 ≤ counts) × (counts + 4 ≤ length (now words)) ⌝ }
+    ensures { λ _. ⌜ now (words .exit) ≡ withWrites (now (words .entry)) to counts (chunksAt n (now (s .entry))) ⌝ }
+{
+    let mut from = 0;
+    let mut free = to;
+    for i in 0..n {
+        let count = wire::word_at(s, from + wire::WORD_BYTES);
+        let d = count as usize;
+        words[counts + i] = count;
+        decode_segments(s, from + CHUNK_HEAD_BYTES, d, words, free);
+        from += CHUNK_HEAD_BYTES + d * wire::SEGMENT_BYTES;
+        free += d * wire::SEGMENT_WORDS;
+    }
 }

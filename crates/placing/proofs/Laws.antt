@@ -1,6 +1,6 @@
 -- Laws about the places of a message that passed its checks, and about bytes put there run by run.
 -- Assumes nothing.
-use mathlib.Core.Path.{_≡_, refl, sym, ap, subst, _∙_}
+use mathlib.Core.Path.{_≡_, refl, sym, ap, _∙_}
 use mathlib.Core.Bool.{Bool, true, false, cond}
 use mathlib.Core.List.{List, [], _∷_, _++_, append-assoc, append-nil}
 use Prim.Native.Nat.{ℕ, zero, suc, _+_, _-_, _≤_, _<_, min}
@@ -11,7 +11,6 @@ use lib.Dec.{leb, ltb, eqb}
 use borrow.Author.Tests.{leb-true, leb-false, ltb-true, ltb-false, eqb-true, eqb-false}
 use Rattle.wire.specs.Wire.{stored}
 use Rattle.wire.specs.declared.ReadSegment.{ReadSegment}
-use Rattle.wire.proofs.Laws.{both-hold}
 use Rattle.layout.specs.Places.{from, put}
 use Rattle.layout.specs.Layout.{run, otherChunks, roundedUp, roundedTotal, stands, places, gaps, paddings, paddingPlaces, basePlaces, messageLength}
 use Rattle.layout.specs.Walks.{totalLength, joinedRun, endedLength, remaining, Seeks}
@@ -19,62 +18,19 @@ use Rattle.layout.specs.declared.Run.{Run}
 use Rattle.layout.proofs.Putting.{put-append, put-first, put-from, put-run, put-none, length-from, length-places}
 use Rattle.layout.proofs.Remaining.{Walk, headed, Step, goes, opens, ends, step, at-first, Last, nothing, itself, last}
 use Rattle.layout.proofs.Stood.{rounded-most, rounded-none}
+use Rattle.layout.proofs.Apart.{Below, below-append, below-from}
+use Rattle.layout.proofs.Placed.{Placed, all-placed, length-base}
 use Rattle.layout.proofs.Seeking.{GapSought, gap-advance, gap-here, gap-next, gap-within, ChunkSought, chunk-advance, chunk-here, chunk-next}
 use Rattle.placing.specs.Sources.{sourcePlaces}
 
--- What `stands` says, as facts: a chunk stands at or behind `end`, and at or before `most`, where the base would end if no chunk came any more.
-unfoldable pub Placed : ℕ → ℕ → List Run → Type 0
-Placed end most [] = Unit {0}
-Placed end most (c ∷ cs) = (end ≤ c .at) × (c .at ≤ most) × Placed (c .at + roundedUp (c .length)) (most + roundedUp (c .length)) cs
-
-stands-placed : (base end earlier : ℕ) (cs : List Run) → stands base end earlier cs ≡ true → Placed end (base + earlier) cs
-unfolding stands Placed
-stands-placed base end earlier [] e = tt
-stands-placed base end earlier (c ∷ cs) e =
-    let x = both-hold (leb end (c .at)) _ e in
-    let y = both-hold (leb (c .at - earlier) base) _ (x .1) in
-    let rest = stands-placed base (c .at + roundedUp (c .length)) (earlier + roundedUp (c .length)) cs (y .1) in
-    let sum : base + (earlier + roundedUp (c .length)) ≡ base + earlier + roundedUp (c .length) = omega arith in
-    (leb-true end (c .at) (x .0), (let near = leb-true (c .at - earlier) base (y .0) in omega arith), subst (λ (n : ℕ). Placed (c .at + roundedUp (c .length)) n cs) sum rest)
-
-pub all-placed : (base : ℕ) (cs : List Run) → stands base 0 0 cs ≡ true → Placed 0 base cs
-all-placed base cs e = let sum : base + 0 ≡ base = omega arith in subst (λ (n : ℕ). Placed 0 n cs) sum (stands-placed base 0 0 cs e)
-
--- Every place is below n.
-unfoldable pub Within : ℕ → List ℕ → Type 0
-Within n [] = Unit {0}
-Within n (p ∷ ps) = (p < n) × Within n ps
-
-within-append : (n : ℕ) (ps qs : List ℕ) → Within n ps → Within n qs → Within n (ps ++ qs)
-unfolding Within
-within-append n [] qs a b = b
-within-append n (p ∷ ps) qs a b = (a .0, within-append n ps qs (a .1) b)
-
-within-from : (n k l : ℕ) → k + l ≤ n → Within n (from k l)
-unfolding Within from
-within-from n k zero h = tt
-within-from n k (suc l) h = (omega arith, within-from n (suc k) l (omega arith))
-
-within-gaps : (n start most : ℕ) (cs : List Run) → start ≤ most → Placed start most cs → most + roundedTotal cs ≤ n → Within n (places (gaps start n cs))
-unfolding Placed roundedTotal places gaps Within
-within-gaps n start most [] s p h = within-append n (from start (n - start)) [] (within-from n start (n - start) (omega arith)) tt
+within-gaps : (n start most : ℕ) (cs : List Run) → start ≤ most → Placed start most cs → most + roundedTotal cs ≤ n → Below n (places (gaps start n cs))
+unfolding Placed roundedTotal places gaps Below
+within-gaps n start most [] s p h = below-append n (from start (n - start)) [] (below-from n start (n - start) (omega arith)) tt
 within-gaps n start most (c ∷ cs) s p h =
-    within-append n (from start (c .at - start)) _ (within-from n start (c .at - start) (omega arith))
+    below-append n (from start (c .at - start)) _ (below-from n start (c .at - start) (omega arith))
     (within-gaps n (c .at + roundedUp (c .length)) (most + roundedUp (c .length)) cs (omega arith) (p .2) (omega arith))
 
--- How many places the base has.
-length-gaps : (start most m : ℕ) (cs : List Run) → start ≤ most → Placed start most cs → m ≡ most + roundedTotal cs → start + length (places (gaps start m cs)) ≡ most
-unfolding Placed roundedTotal places gaps
-length-gaps start most m [] s p e = rw (append-nil, length-from) (omega arith)
-length-gaps start most m (c ∷ cs) s p e =
-    rw (length-append, length-from)
-    (omega (arith, length-gaps (c .at + roundedUp (c .length)) (most + roundedUp (c .length)) m cs (omega arith) (p .2) (omega arith)))
-
-pub length-base : (base : ℕ) (cs : List Run) → stands base 0 0 cs ≡ true → length (basePlaces base cs) ≡ base
-unfolding basePlaces
-length-base base cs e = omega (arith, length-gaps 0 base (messageLength base cs) cs (omega arith) (all-placed base cs e) refl)
-
-pub within-base : (base : ℕ) (cs : List Run) → stands base 0 0 cs ≡ true → Within (messageLength base cs) (basePlaces base cs)
+pub within-base : (base : ℕ) (cs : List Run) → stands base 0 0 cs ≡ true → Below (messageLength base cs) (basePlaces base cs)
 unfolding basePlaces
 within-base base cs e = within-gaps _ 0 base cs (omega arith) (all-placed base cs e) (omega arith)
 
@@ -87,19 +43,19 @@ drop-behind : (ps qs : List ℕ) (k : ℕ) → length ps ≤ k → drop k (ps ++
 drop-behind ps qs k h = let e : k ≡ length ps + (k - length ps) = omega arith in ap (λ (n : ℕ). drop n (ps ++ qs)) e ∙ drop-append-add ps qs (k - length ps)
 
 -- The run that a byte begins lies in the buffer.
-within-drop : (n k : ℕ) (ps : List ℕ) → Within n ps → Within n (drop k ps)
-unfolding Within
+within-drop : (n k : ℕ) (ps : List ℕ) → Below n ps → Below n (drop k ps)
+unfolding Below
 within-drop n zero ps w = w
 within-drop n (suc k) [] w = tt
 within-drop n (suc k) (p ∷ ps) w = within-drop n k ps (w .1)
 
-from-within : (n k l : ℕ) (ps : List ℕ) → 0 < l → Within n (from k l ++ ps) → k + l ≤ n
-unfolding Within from
+from-within : (n k l : ℕ) (ps : List ℕ) → 0 < l → Below n (from k l ++ ps) → k + l ≤ n
+unfolding Below from
 from-within n k zero ps h w = absurd (omega arith)
 from-within n k (suc zero) ps h w = omega (arith, w .0)
 from-within n k (suc (suc l)) ps h w = omega (arith, from-within n (suc k) (suc l) ps (omega arith) (w .1))
 
-pub seek-within : (n k : ℕ) (r : Run) (all : List ℕ) → Seeks all k r → Within n all → r .at + r .length ≤ n
+pub seek-within : (n k : ℕ) (r : Run) (all : List ℕ) → Seeks all k r → Below n all → r .at + r .length ≤ n
 seek-within n k r all s w = from-within n (r .at) (r .length) (drop (k + r .length) all) (s .some) (rw (s .here) at (within-drop n k all w))
 
 -- m bytes more of a piece, stored from the first place of the run that they begin.

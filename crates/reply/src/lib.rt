@@ -44,7 +44,6 @@ const REPLY_KINDS: [ReplyKind; 22] = [
     ReplyKind::None,
 ];
 
-#[repr(C)]
 pub struct GrantAnswer {
     pub credit: u32,
     pub number: u32,

@@ -25,8 +25,8 @@ unfoldable pub isSetup : List ℕ → Bool
 isSetup s = leb 8 (length s) && (eqb (wordAt s 0) identifier && eqb (getD s 4 0) 1)
 
 -- "a flags byte whose lowest bit is R, the others .. ignored; send size; receive size"; "Bytes from the ninth on are ignored."
-abbrev pub setupIn : List ℕ → Setup
-setupIn s = record { «remote_invalidation» = eqb (getD s 5 0 % 2) 1; send = sizeOf (getD s 6 0); receive = sizeOf (getD s 7 0) }
+abbrev pub setupAt : List ℕ → Setup
+setupAt s = record { «remote_invalidation» = eqb (getD s 5 0 % 2) 1; send = sizeOf (getD s 6 0); receive = sizeOf (getD s 7 0) }
 
 -- "there is no setup data, which counts as R clear and 1,024 both ways"
 abbrev pub noSetup : Setup
@@ -35,7 +35,7 @@ noSetup = record { «remote_invalidation» = false; send = record { 0 = 1024 }; 
 -- "reading answers 0 either way"
 unfoldable pub readSetup : List ℕ → SetupAnswer
 readSetup s =
-    cond (isSetup s) (record { setup = setupIn s; present = true; number = 0 })
+    cond (isSetup s) (record { setup = setupAt s; present = true; number = 0 })
     (record { setup = noSetup; present = false; number = 0 })
 
 -- "from 1,024 to 262,144": "These two ends belong to the size's own type."

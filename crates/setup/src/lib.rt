@@ -1,5 +1,5 @@
 // The connection setup data (CM Private Data) of RFC 8797, read and written, and what follows from two of them.
-// Public: Size and its ends, Setup, SetupAnswer, Agreement, read_setup, write_setup, agree. (`no_agreement` serves the exports.)
+// Public: Size and its ends, Setup, SetupAnswer, Agreement, read_setup, write_setup, agree.
 use wire::WriteAnswer;
 ghost use mathlib.Core.Path.{_≡_};
 ghost use mathlib.Core.Bool.{true, _&&_};
@@ -206,7 +206,7 @@ fn both(a: bool, b: bool) -> bool
 }
 
 // What two sides get of which one names a size out of rule.
-pub fn no_agreement() -> Agreement
+fn no_agreement() -> Agreement
     ensures { λ r. ⌜ r ≡ noAgreement ⌝ }
 {
     Agreement {

@@ -7,8 +7,11 @@ use Prim.Native.Nat.{ℕ, suc, _+_, _-_, _≤_, _<_}
 use native.Mathlib.Nat.{add-zero, zero-add, add-suc, suc-add, add-assoc, le-refl}
 use native.Mathlib.Omega.{arith}
 use lib.ListN.{length, take, drop, set, length-drop}
-use lib.Seq.{take-all, getD-drop, sets-eq}
-use Rattle.wire.specs.Answers.{check}
+use lib.Seq.{take-all, getD-drop, set-comm, sets-eq, length-sets}
+use lib.Dec.{leb, eqb}
+use borrow.Author.Tests.{ne-eqb}
+use Rattle.wire.specs.Answers.{check, unlessRefused}
+use Rattle.wire.specs.Words.{flagNumber}
 use Rattle.wire.specs.Wire.{stored, wordAt, segmentAt, readSegmentAt}
 
 -- The part of a slice from k on.
@@ -24,6 +27,23 @@ stored-append l i (x ∷ a) b = stored-append (set l i x) (suc i) a b ∙ rw (ad
 -- The same of three states of a buffer.
 pub then : {A : Type 0} (l m n : List A) (i j : ℕ) (a b : List A) → m ≡ stored l i a → n ≡ stored m j b → i + length a ≡ j → n ≡ stored l i (a ++ b)
 then l m n i j a b p q e = q ∙ rw (← e, p, stored-append l i a b)
+
+-- Storing changes no length.
+pub length-stored : {A : Type 0} (l : List A) (i : ℕ) (a : List A) → length (stored l i a) ≡ length l
+unfolding stored
+length-stored l i a = length-sets l i a
+
+-- Runs stored apart may be stored the other way round.
+set-apart : {A : Type 0} (l : List A) (i j : ℕ) (x : A) (b : List A) → i < j → stored (set l i x) j b ≡ set (stored l j b) i x
+unfolding stored
+set-apart l i j x [] h = refl
+set-apart l i j x (y ∷ b) h = rw (set-comm l i j x y (λ e. omega arith)) (set-apart (set l j y) i (suc j) x b (omega arith))
+
+pub stored-apart : {A : Type 0} (l : List A) (i j : ℕ) (a b : List A) → i + length a ≤ j → stored (stored l i a) j b ≡ stored (stored l j b) i a
+unfolding stored
+stored-apart l i j [] b h = refl
+stored-apart l i j (x ∷ a) b h =
+    stored-apart (set l i x) (suc i) j a b (omega arith) ∙ rw (set-apart l i j x b (omega arith))
 
 -- What is stored at the front stands before the bytes behind it.
 pub stored-front : (l v : List ℕ) → length v ≤ length l → stored l 0 v ≡ v ++ drop (length v) l
@@ -52,3 +72,16 @@ segment-drop k j s = simp (word-drop, add-assoc)
 pub read-segment-drop : (k j : ℕ) (s : List ℕ) → readSegmentAt (drop k s) j ≡ readSegmentAt s (k + j)
 unfolding readSegmentAt
 read-segment-drop k j s = simp (word-drop, segment-drop, add-assoc)
+
+-- A flag, from its word.
+pub flag-fits : (flag : Bool) → leb (flagNumber flag) 1 ≡ true
+flag-fits true = refl
+flag-fits false = refl
+
+pub flag-back : (flag : Bool) → eqb (flagNumber flag) 1 ≡ flag
+flag-back true = refl
+flag-back false = refl
+
+-- A refused call leaves what it would have stored.
+pub kept : {A : Type 0} (n : ℕ) (made before : A) → (n ≡ 0 → ⊥) → unlessRefused n made before ≡ before
+kept n made before h = rw (ne-eqb n 0 h)

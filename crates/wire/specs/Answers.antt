@@ -21,3 +21,7 @@ writerAnswer number bytes = record { number = number; length = cond (eqb number 
 -- "Every writer keeps the buffer's bytes behind what it wrote."; a refused call leaves the buffer as it was.
 abbrev pub writerBuffer : ℕ → List ℕ → List ℕ → List ℕ
 writerBuffer number bytes out = cond (eqb number 0) (bytes ++ drop (length bytes) out) out
+
+-- "An entry point with a single answer number gives it beside unchanged buffers": what a call stores where it is lent a place, or what stood there if it is refused.
+abbrev pub unlessRefused : {A : Type 0} → ℕ → A → A → A
+unlessRefused number made before = cond (eqb number 0) made before

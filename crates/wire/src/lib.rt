@@ -2,8 +2,9 @@
 // every writer answers. The types are public, the calls internal to the library: they ask that the bytes are there.
 ghost use mathlib.Core.Path.{_≡_};
 ghost use Prim.Native.Nat.{_+_, _*_, _≤_, min};
-ghost use lib.ListN.{length};
-ghost use Rattle.wire.specs.Wire.{joinBytes, wordAt, wordOf, refusalOf, segmentAt, readSegmentAt, stored, wordBytes, segmentBytes, readSegmentBytes};
+ghost use lib.ListN.{length, drop};
+ghost use Rattle.wire.specs.Words.{joinWords, flagNumber, segmentIn, segmentWords, readSegmentIn, readSegmentWords};
+ghost use Rattle.wire.specs.Wire.{joinBytes, wordAt, wordOf, refusalOf, segmentAt, readSegmentAt, stored, wordBytes};
 
 // "All numbers on the wire are big-endian 32-bit words, but a segment's offset has 64 bits."
 pub const WORD_BYTES: usize = 4;
@@ -13,6 +14,29 @@ pub const SEGMENT_BYTES: usize = 16;
 
 // "An entry is position, handle, length, offset: 20 bytes."
 pub const READ_SEGMENT_BYTES: usize = 20;
+
+// A segment in words that a caller lends: how many it has, and which they are.
+pub const SEGMENT_WORDS: usize = 4;
+
+pub const HANDLE_AT: usize = 0;
+
+pub const LENGTH_AT: usize = 1;
+
+pub const OFFSET_LOW_AT: usize = 2;
+
+pub const OFFSET_HIGH_AT: usize = 3;
+
+// The same of a read segment.
+pub const READ_SEGMENT_WORDS: usize = 6;
+
+pub const POSITION_AT: usize = 0;
+
+const RESERVED_AT: usize = 1;
+
+pub const TARGET_AT: usize = 2;
+
+// A flag that is set, as a word.
+pub const FLAG_SET: u32 = 1;
 
 // "frame ends inside a field that must be there"
 pub const ENDS_INSIDE_FIELD: u32 = 5;
@@ -24,7 +48,6 @@ pub const BUFFER_SHORT: u32 = 16;
 pub const BAD_ARGUMENT: u32 = 20;
 
 // Memory that the other side registered.
-#[repr(C)]
 pub struct Segment {
     pub handle: u32,
     pub length: u32,
@@ -32,14 +55,12 @@ pub struct Segment {
 }
 
 // A segment to be pulled, and where in the message its bytes go.
-#[repr(C)]
 pub struct ReadSegment {
     pub position: u32,
     pub target: Segment,
 }
 
 // What a writer answers: its number, and with 0 how many bytes it wrote.
-#[repr(C)]
 pub struct WriteAnswer {
     pub number: u32,
     pub length: usize,
@@ -64,8 +85,9 @@ fn join_bytes(a: u8, b: u8, c: u8, d: u8) -> u32
     (a as u32) * 16777216 + (b as u32) * 65536 + (c as u32) * 256 + (d as u32)
 }
 
-fn join_words(high: u32, low: u32) -> u64
-    ensures { λ r. ⌜ r ≡ high * 4294967296 + low ⌝ }
+// A number of 64 bits from its two words.
+pub fn join_words(high: u32, low: u32) -> u64
+    ensures { λ r. ⌜ r ≡ joinWords low high ⌝ }
 {
     (high as u64) * 4294967296 + (low as u64)
 }
@@ -132,25 +154,59 @@ pub fn put_word(out: &mut [u8], k: usize, x: u32)
     out[k + 3] = (x % 256) as u8;
 }
 
-// Writes a segment into the bytes from `k` on.
-pub fn put_segment(out: &mut [u8], k: usize, x: Segment)
-    requires { ⌜ k + 16 ≤ length (now out) ⌝ }
-    ensures { λ _. ⌜ now (out .exit) ≡ stored (now (out .entry)) k (segmentBytes x) ⌝ }
+// The segment in the words from `k` on.
+pub fn segment_in(words: &[u32], k: usize) -> Segment
+    requires { ⌜ k + 4 ≤ length (now words) ⌝ }
+    ensures { λ r. ⌜ r ≡ segmentIn (drop k (now (words .entry))) ⌝ }
 {
-    put_word(out, k, x.handle);
-    put_word(out, k + 4, x.length);
-    put_word(out, k + 8, (x.offset / 4294967296) as u32);
-    put_word(out, k + 12, (x.offset % 4294967296) as u32);
+    Segment {
+        handle: words[k + HANDLE_AT],
+        length: words[k + LENGTH_AT],
+        offset: join_words(words[k + OFFSET_HIGH_AT], words[k + OFFSET_LOW_AT]),
+    }
 }
 
-// Writes a read segment into the bytes from `k` on.
-pub fn put_read_segment(out: &mut [u8], k: usize, x: ReadSegment)
-    requires { ⌜ k + 20 ≤ length (now out) ⌝ }
-    ensures { λ _. ⌜ now (out .exit) ≡ stored (now (out .entry)) k (readSegmentBytes x) ⌝ }
+// The read segment in the words from `k` on.
+pub fn read_segment_in(words: &[u32], k: usize) -> ReadSegment
+    requires { ⌜ k + 6 ≤ length (now words) ⌝ }
+    ensures { λ r. ⌜ r ≡ readSegmentIn (drop k (now (words .entry))) ⌝ }
 {
-    put_word(out, k, x.position);
+    ReadSegment {
+        position: words[k + POSITION_AT],
+        target: segment_in(words, k + TARGET_AT),
+    }
+}
+
+// Stores a segment into the words from `k` on.
+pub fn store_segment(words: &mut [u32], k: usize, x: Segment)
+    requires { ⌜ k + 4 ≤ length (now words) ⌝ }
+    ensures { λ _. ⌜ now (words .exit) ≡ stored (now (words .entry)) k (segmentWords x) ⌝ }
+{
+    words[k + HANDLE_AT] = x.handle;
+    words[k + LENGTH_AT] = x.length;
+    words[k + OFFSET_LOW_AT] = (x.offset % 4294967296) as u32;
+    words[k + OFFSET_HIGH_AT] = (x.offset / 4294967296) as u32;
+}
+
+// Stores a read segment into the words from `k` on.
+pub fn store_read_segment(words: &mut [u32], k: usize, x: ReadSegment)
+    requires { ⌜ k + 6 ≤ length (now words) ⌝ }
+    ensures { λ _. ⌜ now (words .exit) ≡ stored (now (words .entry)) k (readSegmentWords x) ⌝ }
+{
+    words[k + POSITION_AT] = x.position;
+    words[k + RESERVED_AT] = 0;
     let target = x.target;
-    put_segment(out, k + 4, target);
+    store_segment(words, k + TARGET_AT, target);
+}
+
+// A flag as a word.
+pub fn flag_number(flag: bool) -> u32
+    ensures { λ r. ⌜ r ≡ flagNumber flag ⌝ }
+{
+    if flag {
+        return FLAG_SET;
+    }
+    0
 }
 
 // The smaller of two numbers.

@@ -267,14 +267,15 @@ fn assembled(text: &[u8], frame: &[u8], first: &[u8], second: &[u8]) {
         end();
         return;
     }
-    let one = assembly::take_piece(started.state, first, out);
-    let two = assembly::take_piece(one.state, second, out);
-    let number = assembly::ask(two.state, &space);
-    let message = assembly::message(two.state, &space);
+    let mut state = started.state;
+    let one = assembly::take_piece(&mut state, first, out);
+    let two = assembly::take_piece(&mut state, second, out);
+    let number = assembly::ask(&state, &space);
+    let message = assembly::message(&state, &space);
     name(text);
     value(started.number as u64);
-    value(one.number as u64);
-    value(two.number as u64);
+    value(one as u64);
+    value(two as u64);
     value(number as u64);
     value(message.len() as u64);
     bytes(message);

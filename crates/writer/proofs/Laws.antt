@@ -2,44 +2,38 @@
 -- Assumes nothing.
 use mathlib.Core.Path.{_≡_, refl, sym, ap, _∙_}
 use mathlib.Core.Bool.{Bool, true, false, cond}
-use mathlib.Core.List.{List, [], _∷_, _++_, append-assoc, append-nil}
+use mathlib.Core.List.{List, [], _∷_, _++_}
+use mathlib.Core.Option.{Option, none, some}
 use mathlib.Core.Logic.{⊎-elim}
 use Prim.Native.Nat.{ℕ, zero, suc, _+_, _*_, _%_, _≤_, _<_}
-use native.Mathlib.Nat.{zero-mul, suc-mul}
 use native.Mathlib.Numerals.{add-one}
 use native.Mathlib.Omega.{arith}
-use lib.ListN.{length, take, drop, getD, length-append, length-drop, length-map}
-use lib.Seq.{take-suc, drop-drop, length-take-le}
+use lib.ListN.{length, take, drop, getD, length-append, length-drop}
+use lib.Seq.{take-suc, drop-drop, length-take-le, getD-drop, getD-take}
 use lib.Dec.{eqb, leb}
-use mir.Val.{Val}
-use denote.Shadow.{shadow}
 use denote.Enum.Declared.{tagOf}
 use types.Run.{OneOf}
-use borrow.Author.Tests.{leb-true, lt-leb, eq-eqb, ne-eqb}
-use borrow.Author.Needs.{needs}
+use borrow.Author.Tests.{leb-true, le-leb, lt-leb, eq-eqb, ne-eqb}
 use Rattle.wire.specs.Wire.{stored, joined, wordBytes, segmentBytes, readSegmentBytes}
 use Rattle.wire.specs.declared.Segment.{Segment}
 use Rattle.wire.specs.declared.ReadSegment.{ReadSegment}
+use Rattle.wire.specs.Answers.{check, unlessRefused}
 use Rattle.wire.proofs.Laws.{then, both-hold, check-passed}
-use Rattle.wire.proofs.Segment as segment
-use Rattle.wire.proofs.ReadSegment as read-segment
-use Rattle.wire.specs.Answers.{check}
+use Rattle.wire.proofs.Joining.{joined-length, joined-take-length}
 use Rattle.lists.specs.Lists.{positionsNumber}
-use Rattle.lists.specs.declared.ReadList.{ReadList}
-use Rattle.lists.specs.declared.WriteList.{WriteList}
-use Rattle.lists.specs.declared.ReplyChunk.{ReplyChunk}
-use Rattle.lists.proofs.ReadList as read-list
-use Rattle.lists.proofs.WriteList as write-list
-use Rattle.lists.proofs.ReplyChunk as reply-chunk
+use Rattle.lists.specs.Words.{readsIn, segmentsIn}
+use Rattle.lists.proofs.Words.{length-reads, length-segments}
 use Rattle.header.specs.Content.{contentOf, runs, replyOf}
+use Rattle.header.specs.Words.{writesAt, replyAt, readCountAt, writeChunksAt, replyPresentAt, replyCountAt, kindAt, lowAt, highAt, xidAt, creditAt, kindIn, headerAs, headerIn}
 use Rattle.header.specs.declared.Header.{Header}
+use Rattle.header.specs.declared.Known.the-variants.{Is, No}
 use Rattle.header.specs.declared.Kind.{Kind}
 use Rattle.header.specs.declared.Kind.the-variants.{Msg, Nomsg, Error}
 use Rattle.header.specs.declared.ErrorKind.{ErrorKind}
-use Rattle.header.specs.declared.ErrorKind.the-variants.{Version, Chunk}
 use Rattle.header.proofs.Kind.{the-type}
-use Rattle.writer.specs.Bytes.{entryBytes, countedBytes, chunkBytes, readListBytes, writeListBytes, replyBytes, restBytes, errorBytes, fixedBytes, headerBytes, partsOf}
-use Rattle.writer.specs.Write.{bareIfError, total, withinLimits, writeNumber}
+use Rattle.writer.specs.Bytes.{entryBytes, countedBytes, chunkBytes, readListBytes, writeListBytes, replyBytes, restBytes, errorBytes, fixedBytes, headerBytes}
+use Rattle.writer.specs.Write.{writeAnswer, writtenInto, lentAnswer, lentBuffer, bareIfError, total, withinLimits, writeNumber}
+use Rattle.writer.specs.Words.{countsIn, limitsKept, partsIn}
 
 -- The total of counts and one more.
 total-snoc : (ns : List ℕ) (n : ℕ) → total (ns ++ (n ∷ [])) ≡ total ns + n
@@ -62,34 +56,6 @@ total-take (n ∷ ns) (suc j) (suc k) h = omega (arith, total-take ns j k (omega
 -- One more of them is within the total.
 pub total-within : (ns : List ℕ) (j k : ℕ) → j < k → k ≤ length ns → total (take j ns) + getD ns j 0 ≤ total (take k ns)
 total-within ns j k h few = rw (← (total-next ns j (omega arith))) (total-take ns (j + 1) k (omega arith))
-
--- One more element: what f gives for it comes behind.
-pub joined-snoc : {A B : Type 0} (f : A → List B) (xs : List A) (x : A) → joined f (xs ++ (x ∷ [])) ≡ joined f xs ++ f x
-unfolding joined
-joined-snoc f [] x = append-nil (f x)
-joined-snoc f (y ∷ xs) x = rw (joined-snoc f xs x, append-assoc)
-
--- The same of the first elements of a list.
-joined-next : {A B : Type 0} (f : A → List B) (xs : List A) (k : ℕ) (z : A) → k < length xs → joined f (take (k + 1) xs) ≡ joined f (take k xs) ++ f (getD xs k z)
-joined-next f xs k z h = rw (add-one, take-suc xs k z h) (joined-snoc f (take k xs) (getD xs k z))
-
--- What f gives for every element has one length: so many times that.
-joined-length : {A B : Type 0} (f : A → List B) (w : ℕ) → ((x : A) → length (f x) ≡ w) → (xs : List A) → length (joined f xs) ≡ length xs * w
-unfolding joined
-joined-length f w e [] = rw zero-mul
-joined-length f w e (x ∷ xs) = rw (length-append, e x, joined-length f w e xs) (omega (arith, suc-mul (length xs) w))
-
--- So many times that, of the first k elements.
-joined-take-length : {A B : Type 0} (f : A → List B) (w : ℕ) → ((x : A) → length (f x) ≡ w) → (xs : List A) (k : ℕ) → k ≤ length xs → length (joined f (take k xs)) ≡ k * w
-joined-take-length f w e xs k h = joined-length f w e (take k xs) ∙ rw (length-take-le k xs h)
-
--- Elements written one behind the other in w bytes each, and then what stands behind them.
-pub stored-behind : {A B : Type 0} (f : A → List B) (w : ℕ) → ((x : A) → length (f x) ≡ w) → (xs : List A) (n k : ℕ) → n ≤ length xs → (before out after rest : List B) → out ≡ stored before k (joined f (take n xs)) → after ≡ stored out (k + n * w) rest → after ≡ stored before k (joined f (take n xs) ++ rest)
-stored-behind f w e xs n k h before out after rest p q = then before out after k (k + n * w) _ rest p q (rw (joined-take-length f w e xs n h))
-
--- So with one element more: the step of a loop that writes them.
-pub stored-next : {A B : Type 0} (f : A → List B) (w : ℕ) → ((x : A) → length (f x) ≡ w) → (xs : List A) (z : A) (j k : ℕ) → j < length xs → (before out after : List B) → out ≡ stored before k (joined f (take j xs)) → after ≡ stored out (k + j * w) (f (getD xs j z)) → after ≡ stored before k (joined f (take (j + 1) xs))
-stored-next f w e xs z j k h before out after p q = rw (joined-next f xs j z h) (stored-behind f w e xs j k (omega arith) before out after _ p q)
 
 -- One run more: it is taken behind those that were.
 runs-snoc : {A : Type 0} (ns : List ℕ) (n : ℕ) (l : List A) → runs (ns ++ (n ∷ [])) l ≡ runs ns l ++ (take n (drop (total ns) l) ∷ [])
@@ -145,12 +111,6 @@ pub reply-within : (present : Bool) (n : ℕ) → n ≤ 16 → cond present (8 +
 reply-within false n h = omega arith
 reply-within true n h = omega arith
 
--- An error takes few bytes.
-pub error-within : (e : ErrorKind) → length (errorBytes e) ≤ 12
-unfolding errorBytes wordBytes
-error-within (Version low high) = omega arith
-error-within Chunk = omega arith
-
 -- The step of the law below.
 check-next : (a b : Bool) (p q next : ℕ) → p ≡ cond (eqb q 0) next q → check a 9 (check b 8 p) ≡ cond (eqb (check a 9 (check b 8 q)) 0) next (check a 9 (check b 8 q))
 check-next true true p q next h = h
@@ -186,53 +146,47 @@ not-error (Error e) h parts = absurd (⊎-elim (λ z. omega arith) (λ z. omega 
 pub an-error : (kind : Kind) (e : ErrorKind) → kind ≡ Error e → (parts : List ℕ) → restBytes kind parts ≡ errorBytes e
 an-error kind e h parts = rw h
 
--- The arrays of a read list, a write list and a reply chunk that a caller passed are full.
-reads-full : (x : ReadList) (vs : List Val) → shadow (read-list.the-field .row .own (read-list.the-type .to x) vs) → length (x .segments) ≡ 16
-reads-full x vs h = omega (arith, length-map (x .segments) (read-segment.the-type .to))
+-- The counts of the write chunks in words: there are four, and where they stand.
+pub counts-long : (w : List ℕ) → length w ≡ 238 → length (countsIn w) ≡ 4
+counts-long w e = length-take-le 4 (drop 224 w) (rw length-drop (omega arith))
 
-writes-full : (x : WriteList) (vs : List Val) → shadow (write-list.the-field .row .own (write-list.the-type .to x) vs) → (length (x .segments) ≡ 16) × (length (x .counts) ≡ 4)
-writes-full x vs h = (omega (arith, length-map (x .segments) (segment.the-type .to)), search needs)
+pub count-here : (w : List ℕ) (k : ℕ) → k < 4 → getD (countsIn w) k 0 ≡ getD w (224 + k) 0
+count-here w k h = rw (getD-take, getD-drop)
 
-reply-full : (x : ReplyChunk) (vs : List Val) → shadow (reply-chunk.the-field .row .own (reply-chunk.the-type .to x) vs) → length (x .segments) ≡ 16
-reply-full x vs h = omega (arith, length-map (x .segments) (segment.the-type .to))
-
--- How many bytes the three parts of a header take within their limits.
-abbrev pub partsSize : ReadList → WriteList → ReplyChunk → ℕ
-partsSize reads writes reply =
-    (reads .count * 24 + 4) + ((writes .chunks * 8 + total (take (writes .chunks) (writes .counts)) * 16 + 4) + cond (reply .present) (8 + reply .count * 16) 4)
+-- How many bytes the three parts take within their limits.
+abbrev pub partsSize : List ℕ → Bool → ℕ
+partsSize w present =
+    (getD w readCountAt 0 * 24 + 4) + ((getD w writeChunksAt 0 * 8 + total (take (getD w writeChunksAt 0) (countsIn w)) * 16 + 4) + cond present (8 + getD w replyCountAt 0 * 16) 4)
 
 -- What holds of three parts within their limits: they have few entries, and so many bytes.
-pub record Passed (reads : ReadList) (writes : WriteList) (reply : ReplyChunk) : Type 0 where
-  pub few-reads : reads .count ≤ 16
-  pub few-chunks : writes .chunks ≤ 4
-  pub few-segments : total (take (writes .chunks) (writes .counts)) ≤ 16
-  pub few-replies : reply .count ≤ 16
-  pub size : length (partsOf reads writes reply) ≡ partsSize reads writes reply
-  pub reads-bytes : length (readListBytes (take (reads .count) (reads .segments))) ≡ reads .count * 24 + 4
-  pub writes-bytes : length (writeListBytes (runs (take (writes .chunks) (writes .counts)) (writes .segments))) ≡ writes .chunks * 8 + total (take (writes .chunks) (writes .counts)) * 16 + 4
+pub record Passed (w : List ℕ) (present : Bool) : Type 0 where
+  pub few-reads : getD w readCountAt 0 ≤ 16
+  pub few-chunks : getD w writeChunksAt 0 ≤ 4
+  pub few-segments : total (take (getD w writeChunksAt 0) (countsIn w)) ≤ 16
+  pub few-replies : getD w replyCountAt 0 ≤ 16
+  pub size : length (partsIn w present) ≡ partsSize w present
+  pub reads-bytes : length (readListBytes (take (getD w readCountAt 0) (readsIn w))) ≡ getD w readCountAt 0 * 24 + 4
+  pub writes-bytes : length (writeListBytes (runs (take (getD w writeChunksAt 0) (countsIn w)) (segmentsIn writesAt w))) ≡ getD w writeChunksAt 0 * 8 + total (take (getD w writeChunksAt 0) (countsIn w)) * 16 + 4
 
 -- The replies are few, be there a chunk or not.
 few-in : (present : Bool) (n : ℕ) → n ≤ cond present 16 0 → n ≤ 16
 few-in true n h = h
 few-in false n h = omega arith
 
--- Three parts that a caller passed, within their limits.
-pub passed : (reads : ReadList) (writes : WriteList) (reply : ReplyChunk) (rs ws ps : List Val) → shadow (read-list.the-field .row .own (read-list.the-type .to reads) rs) → shadow (write-list.the-field .row .own (write-list.the-type .to writes) ws) → shadow (reply-chunk.the-field .row .own (reply-chunk.the-type .to reply) ps) → withinLimits (reads .count) (writes .chunks) (writes .counts) (reply .present) (reply .count) ≡ true → Passed reads writes reply
+-- Three parts within their limits.
+pub passed : (w : List ℕ) (present : Bool) → length w ≡ 238 → limitsKept w present ≡ true → Passed w present
 unfolding withinLimits
-passed reads writes reply rs ws ps r w p h =
-    let a = both-hold (leb (reads .count) 16) _ h in
-    let b = both-hold (leb (writes .chunks) 4) _ (a .1) in
-    let d = both-hold (leb (total (take (writes .chunks) (writes .counts))) 16) _ (b .1) in
-    let i : reads .count ≤ 16 = leb-true _ _ (a .0) in
-    let j : writes .chunks ≤ 4 = leb-true _ _ (b .0) in
-    let k : total (take (writes .chunks) (writes .counts)) ≤ 16 = leb-true _ _ (d .0) in
-    let l : reply .count ≤ 16 = few-in (reply .present) (reply .count) (leb-true _ _ (d .1)) in
-    let full = reads-full reads rs r in
-    let whole = writes-full writes ws w in
-    let all = reply-full reply ps p in
-    let reads-bytes = reads-length (reads .count) (reads .segments) (omega arith) in
-    let writes-bytes = writes-length (writes .chunks) (writes .counts) (writes .segments) (omega arith) (omega arith) in
-    let reply-bytes = replies-length (reply .present) (reply .count) (reply .segments) (omega arith) in
+passed w present long h =
+    let a = both-hold (leb (getD w readCountAt 0) 16) _ h in
+    let b = both-hold (leb (getD w writeChunksAt 0) 4) _ (a .1) in
+    let d = both-hold (leb (total (take (getD w writeChunksAt 0) (countsIn w))) 16) _ (b .1) in
+    let i : getD w readCountAt 0 ≤ 16 = leb-true _ _ (a .0) in
+    let j : getD w writeChunksAt 0 ≤ 4 = leb-true _ _ (b .0) in
+    let k : total (take (getD w writeChunksAt 0) (countsIn w)) ≤ 16 = leb-true _ _ (d .0) in
+    let l : getD w replyCountAt 0 ≤ 16 = few-in present (getD w replyCountAt 0) (leb-true _ _ (d .1)) in
+    let reads-bytes = reads-length (getD w readCountAt 0) (readsIn w) (rw (length-reads w) i) in
+    let writes-bytes = writes-length (getD w writeChunksAt 0) (countsIn w) (segmentsIn writesAt w) (rw (counts-long w long) j) (rw (length-segments writesAt w) k) in
+    let reply-bytes = replies-length present (getD w replyCountAt 0) (segmentsIn replyAt w) (rw (length-segments replyAt w) l) in
     record {
       few-reads = i;
       few-chunks = j;
@@ -243,27 +197,29 @@ passed reads writes reply rs ws ps r w p h =
       writes-bytes = writes-bytes;
     }
 
--- The bytes of a header, from what comes behind its fixed words.
-header-of : (h : Header) (rest : List ℕ) → restBytes (h .kind) (partsOf (h .reads) (h .writes) (h .reply)) ≡ rest → headerBytes (contentOf h) ≡ fixedBytes (h .kind) (h .xid) (h .credit) ++ rest
-unfolding headerBytes contentOf
-header-of h rest e = ap (λ t. fixedBytes (h .kind) (h .xid) (h .credit) ++ t) e
-
 -- How many bytes the fixed words take.
 pub fixed-length : (kind : Kind) (xid credit : ℕ) → length (fixedBytes kind xid credit) ≡ 16
 unfolding fixedBytes wordBytes
 fixed-length kind xid credit = refl
 
--- How many bytes a header takes, from what comes behind its fixed words.
-pub header-size : (h : Header) (rest : List ℕ) → restBytes (h .kind) (partsOf (h .reads) (h .writes) (h .reply)) ≡ rest → length (headerBytes (contentOf h)) ≡ 16 + length rest
-header-size h rest e = rw (header-of h rest e, length-append, fixed-length)
+-- A header in words, of which `rest` comes behind its fixed words.
+module _ (w : List ℕ) (kind : Kind) (present : Bool) (rest : List ℕ) (e : restBytes kind (partsIn w present) ≡ rest) where
+  -- Its bytes.
+  header-of : headerBytes (contentOf (headerAs w kind present)) ≡ fixedBytes kind (getD w xidAt 0) (getD w creditAt 0) ++ rest
+  unfolding headerBytes contentOf
+  header-of = ap (λ t. fixedBytes kind (getD w xidAt 0) (getD w creditAt 0) ++ t) e
 
--- A header is written: its fixed words, and behind them the rest.
-pub header-written : (h : Header) (rest : List ℕ) → restBytes (h .kind) (partsOf (h .reads) (h .writes) (h .reply)) ≡ rest → (before out after : List ℕ) (r : ℕ) → out ≡ stored before 0 (fixedBytes (h .kind) (h .xid) (h .credit)) → (r ≡ 16 + length rest) × (after ≡ stored out 16 rest) → (r ≡ length (headerBytes (contentOf h))) × (after ≡ stored before 0 (headerBytes (contentOf h)))
-header-written h rest e before out after r fixed p = (p .0 ∙ sym (header-size h rest e), rw (header-of h rest e) (then before out after 0 16 _ rest fixed (p .1) (rw fixed-length)))
+  -- How many they are.
+  pub header-size : length (headerBytes (contentOf (headerAs w kind present))) ≡ 16 + length rest
+  header-size = rw (header-of, length-append, fixed-length)
+
+  -- It is written: its fixed words, and behind them the rest.
+  pub header-written : (before out after : List ℕ) (r : ℕ) → out ≡ stored before 0 (fixedBytes kind (getD w xidAt 0) (getD w creditAt 0)) → (r ≡ 16 + length rest) × (after ≡ stored out 16 rest) → (r ≡ length (headerBytes (contentOf (headerAs w kind present)))) × (after ≡ stored before 0 (headerBytes (contentOf (headerAs w kind present))))
+  header-written before out after r fixed p = (p .0 ∙ sym header-size, rw header-of (then before out after 0 16 _ rest fixed (p .1) (rw fixed-length)))
 
 -- The length of a header, from what it is for parts of their length.
-pub sized : (h : Header) (r : ℕ) → Passed (h .reads) (h .writes) (h .reply) → ((parts : List ℕ) → length parts ≡ partsSize (h .reads) (h .writes) (h .reply) → r ≡ 16 + length (restBytes (h .kind) parts)) → length (headerBytes (contentOf h)) ≡ r
-sized h r known claim = header-size h _ refl ∙ sym (claim _ (known .size))
+pub sized : (w : List ℕ) (kind : Kind) (present : Bool) (r : ℕ) → Passed w present → ((parts : List ℕ) → length parts ≡ partsSize w present → r ≡ 16 + length (restBytes kind parts)) → length (headerBytes (contentOf (headerAs w kind present))) ≡ r
+sized w kind present r known claim = header-size w kind present _ refl ∙ sym (claim _ (known .size))
 
 -- Positions that give 0 were in order.
 pub positions-zero : (last : ℕ) (l : List ReadSegment) (next : ℕ) → positionsNumber last l next ≡ 0 → next ≡ 0
@@ -281,3 +237,31 @@ accepted h room e =
     let b = check-passed (withinLimits (h .reads .count) (h .writes .chunks) (h .writes .counts) (h .reply .present) (h .reply .count)) 7 _ (omega arith) a in
     let d = check-passed (leb n 1024) 21 _ (omega arith) (positions-zero 0 (contentOf h .reads) _ (b .1)) .1 in
     (b .0, leb-true n room (check-passed (leb n room) 16 0 (omega arith) d .0))
+
+-- The header that words hold: none where its kind or its flag is unknown.
+pub held : (w : List ℕ) (kind : Kind) → kindIn (getD w kindAt 0) (getD w lowAt 0) (getD w highAt 0) ≡ Is kind → getD w replyPresentAt 0 ≤ 1 → headerIn w ≡ some (headerAs w kind (eqb (getD w replyPresentAt 0) 1))
+unfolding headerIn
+held w kind e h = rw (e, le-leb _ _ h)
+
+pub kind-unknown : (w : List ℕ) → kindIn (getD w kindAt 0) (getD w lowAt 0) (getD w highAt 0) ≡ No → headerIn w ≡ none
+unfolding headerIn
+kind-unknown w e = rw e
+
+pub flag-unknown : (w : List ℕ) (kind : Kind) → kindIn (getD w kindAt 0) (getD w lowAt 0) (getD w highAt 0) ≡ Is kind → 1 < getD w replyPresentAt 0 → headerIn w ≡ none
+unfolding headerIn
+flag-unknown w kind e h = rw (e, lt-leb _ _ h)
+
+-- A refused writing has written 0 bytes.
+pub none-written : (h : Header) (room : ℕ) → unlessRefused (writeAnswer h room .number) (writeAnswer h room .length) 0 ≡ writeAnswer h room .length
+unfolding writeAnswer
+none-written h room = by (eqb (writeNumber h room) 0)
+  where
+    by : (b : Bool) → cond b (cond b (length (headerBytes (contentOf h))) 0) 0 ≡ cond b (length (headerBytes (contentOf h))) 0
+    by true = refl
+    by false = refl
+
+-- A refused writing leaves the buffer.
+pub lent-refused : (h : Option Header) (out : List ℕ) → (lentAnswer h (length out) .number ≡ 0 → ⊥) → lentBuffer h out ≡ out
+unfolding writeAnswer writtenInto
+lent-refused none out n = refl
+lent-refused (some h) out n = rw (ne-eqb (writeNumber h (length out)) 0 n)

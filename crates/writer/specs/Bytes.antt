@@ -2,14 +2,11 @@
 use Prim.Native.Nat.{ℕ}
 use mathlib.Core.List.{List, _++_}
 use mathlib.Core.Option.{Option, none, some}
-use lib.ListN.{length, take}
+use lib.ListN.{length}
 use Rattle.wire.specs.Wire.{joined, wordBytes, segmentBytes, readSegmentBytes}
 use Rattle.wire.specs.declared.Segment.{Segment}
 use Rattle.wire.specs.declared.ReadSegment.{ReadSegment}
-use Rattle.lists.specs.declared.ReadList.{ReadList}
-use Rattle.lists.specs.declared.WriteList.{WriteList}
-use Rattle.lists.specs.declared.ReplyChunk.{ReplyChunk}
-use Rattle.header.specs.Content.{Content, runs, replyOf}
+use Rattle.header.specs.Content.{Content}
 use Rattle.header.specs.declared.Kind.{Kind}
 use Rattle.header.specs.declared.Kind.the-variants.{Msg, Nomsg, Error}
 use Rattle.header.specs.declared.ErrorKind.{ErrorKind}
@@ -53,12 +50,6 @@ errorBytes Chunk = wordBytes 2
 -- "three parts": the read list, the write list and the reply chunk.
 abbrev pub partsBytes : List ReadSegment → List (List Segment) → Option (List Segment) → List ℕ
 partsBytes reads writes reply = readListBytes reads ++ (writeListBytes writes ++ replyBytes reply)
-
--- The same of the structs that hold them. (Cited by internal contracts only.)
-abbrev pub partsOf : ReadList → WriteList → ReplyChunk → List ℕ
-partsOf reads writes reply =
-    partsBytes (take (reads .count) (reads .segments)) (runs (take (writes .chunks) (writes .counts)) (writes .segments))
-    (replyOf (reply .present) (take (reply .count) (reply .segments)))
 
 -- "MSG and NOMSG go on with three parts", ERROR with its code word.
 abbrev pub restBytes : Kind → List ℕ → List ℕ

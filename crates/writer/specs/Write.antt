@@ -2,6 +2,7 @@
 use Prim.Native.Nat.{ℕ, _+_}
 use mathlib.Core.Bool.{Bool, true, cond, not, _&&_}
 use mathlib.Core.List.{List, [], _∷_}
+use mathlib.Core.Option.{Option, none, some}
 use lib.ListN.{length, take}
 use lib.Dec.{leb, eqb}
 use Rattle.wire.specs.Answers.{check, roomNumber, writerAnswer, writerBuffer}
@@ -45,3 +46,13 @@ writeAnswer h room = writerAnswer (writeNumber h room) (headerBytes (contentOf h
 -- The buffer after the call.
 unfoldable pub writtenInto : Header → List ℕ → List ℕ
 writtenInto h out = writerBuffer (writeNumber h (length out)) (headerBytes (contentOf h)) out
+
+-- The answer to one who lends the header: "bad argument" (20) where its kind or its flag stands for nothing.
+abbrev pub lentAnswer : Option Header → ℕ → WriteAnswer
+lentAnswer none room = record { number = 20; length = 0 }
+lentAnswer (some h) room = writeAnswer h room
+
+-- The buffer then.
+abbrev pub lentBuffer : Option Header → List ℕ → List ℕ
+lentBuffer none out = out
+lentBuffer (some h) out = writtenInto h out

@@ -1,33 +1,46 @@
-// The transport header, written into a lent buffer. Public: write_header.
+// The transport header, written into a lent buffer. Public: write_header; write_words, which writes from lent words.
 use header::ErrorKind;
 use header::Header;
 use header::Kind;
-use lists::ReadList;
-use lists::ReplyChunk;
-use lists::WriteList;
-use wire::ReadSegment;
-use wire::Segment;
+use header::Known;
 use wire::WriteAnswer;
 ghost use mathlib.Core.Path.{_≡_};
 ghost use mathlib.Core.Bool.{true, cond};
 ghost use mathlib.Core.List.{List};
-ghost use Prim.Native.Nat.{ℕ, _+_, _*_, _-_, _≤_};
+ghost use Prim.Native.Nat.{ℕ, _+_, _*_, _≤_};
 ghost use lib.ListN.{length, take, drop};
+ghost use Rattle.wire.specs.Answers.{unlessRefused};
 ghost use Rattle.wire.specs.Wire.{stored, joined, segmentBytes};
+ghost use Rattle.wire.specs.Words.{segmentIn, readSegmentIn};
+ghost use Rattle.lists.specs.Words.{readsIn, segmentsIn};
 ghost use Rattle.header.specs.Content.{contentOf, runs, replyOf};
-ghost use Rattle.writer.specs.Bytes.{chunkBytes, readListBytes, writeListBytes, replyBytes, errorBytes, fixedBytes, procedureOf, restBytes, partsOf, headerBytes};
-ghost use Rattle.writer.specs.Write.{bareIfError, total, withinLimits, writeNumber, writeAnswer, writtenInto};
+ghost use Rattle.header.specs.Words.{headerAs, headerIn};
+ghost use Rattle.writer.specs.Bytes.{entryBytes, chunkBytes, readListBytes, writeListBytes, replyBytes, errorBytes, fixedBytes, procedureOf, restBytes, headerBytes};
+ghost use Rattle.writer.specs.Write.{bareIfError, total, withinLimits, writeNumber, writeAnswer, writtenInto, lentAnswer, lentBuffer};
+ghost use Rattle.writer.specs.Words.{countsIn, limitsKept, partsIn};
 
 // "a header to be written is longer than 1,024 bytes"
 pub const HEADER_LONG: u32 = 21;
 
 pub const LONGEST_HEADER: usize = 1024;
 
-// A code word, low and high.
-const VERSION_ERROR_BYTES: usize = 12;
+// "a marker word 1, an entry, .. a marker word 0 ends it"
+const ENTRY: u32 = 1;
+
+const END: u32 = 0;
+
+// A marker and a position, before the segment of an entry.
+const ENTRY_HEAD_BYTES: usize = 8;
+
+// "handle, length, offset", of which the offset's high word comes first: where they stand in a segment's bytes.
+const LENGTH_BYTE: usize = 4;
+
+const OFFSET_HIGH_BYTE: usize = 8;
+
+const OFFSET_LOW_BYTE: usize = 12;
 
 // Whether a header that is an ERROR has no entry and no reply chunk.
-fn bare_if_error(kind: Kind, reads: u32, chunks: u32, present: bool) -> bool
+fn bare_if_error(kind: Kind, reads: usize, chunks: usize, present: bool) -> bool
     ensures { λ r. ⌜ r ≡ bareIfError kind reads chunks present ⌝ }
 {
     match kind {
@@ -45,34 +58,34 @@ fn bare_if_error(kind: Kind, reads: u32, chunks: u32, present: bool) -> bool
     }
 }
 
-// The segments of the first n chunks; 64 bits, so that no counts wrap.
-fn total_count(counts: [u32; 4], n: usize) -> u64
-    requires { ⌜ n ≤ 4 ⌝ }
-    ensures { λ r. ⌜ r ≡ total (take n counts) ⌝ }
+// The segments of the first n chunks, in 64 bits, so that no counts wrap.
+fn total_count(words: &[u32], n: usize) -> usize
+    requires { ⌜ (length (now words) ≡ 238) × (n ≤ 4) ⌝ }
+    ensures { λ r. ⌜ r ≡ total (take n (countsIn (now (words .entry)))) ⌝ }
 {
-    let mut sum: u64 = 0;
+    let mut sum = 0;
     for k in 0..n {
-        let count = counts[k];
-        sum += count as u64;
+        sum += words[header::WRITE_COUNTS_AT + k] as usize;
     }
     sum
 }
 
 // Whether the counts of a header are within its limits.
-fn within_limits(reads: u32, chunks: u32, counts: [u32; 4], present: bool, replies: u32) -> bool
-    ensures { λ r. ⌜ r ≡ withinLimits reads chunks counts present replies ⌝ }
+fn within_limits(words: &[u32], reads: usize, chunks: usize, present: bool, replies: usize) -> bool
+    requires { ⌜ length (now words) ≡ 238 ⌝ }
+    ensures { λ r. ⌜ r ≡ withinLimits reads chunks (countsIn (now (words .entry))) present replies ⌝ }
 {
-    if 16 < reads {
+    if lists::READ_SEGMENTS < reads {
         return false;
     }
-    if 4 < chunks {
+    if lists::WRITE_CHUNKS < chunks {
         return false;
     }
-    if 16 < total_count(counts, chunks as usize) {
+    if lists::WRITE_SEGMENTS < total_count(words, chunks) {
         return false;
     }
     if present {
-        return replies <= 16;
+        return replies <= lists::REPLY_SEGMENTS;
     }
     replies == 0
 }
@@ -98,70 +111,55 @@ fn lists_length(reads: usize, chunks: usize, segments: usize, reply: usize) -> u
             + reply)
 }
 
+// How many bytes an ERROR header takes.
 fn error_length(e: ErrorKind) -> usize
-    ensures { λ r. ⌜ r ≡ length (errorBytes e) ⌝ }
+    ensures { λ r. ⌜ r ≡ 16 + length (errorBytes e) ⌝ }
 {
     match e {
-        ErrorKind::Version(_, _) => VERSION_ERROR_BYTES,
-        ErrorKind::Chunk => wire::WORD_BYTES,
+        ErrorKind::Version(_, _) => header::VERSION_ERROR_BYTES,
+        ErrorKind::Chunk => header::CHUNK_ERROR_BYTES,
     }
 }
 
 // How many bytes a header within its limits takes.
 fn header_length(
+    words: &[u32],
     kind: Kind,
     reads: usize,
     chunks: usize,
-    counts: [u32; 4],
     present: bool,
     replies: usize,
 ) -> usize
-    requires { ⌜ (reads ≤ 16) × (chunks ≤ 4) × (total (take chunks counts) ≤ 16) × (replies ≤ 16) ⌝ }
-    ensures { λ r. ⌜ ((parts : List ℕ) → length parts ≡ (reads * 24 + 4) + ((chunks * 8 + total (take chunks counts) * 16 + 4) + cond present (8 + replies * 16) 4) → r ≡ 16 + length (restBytes kind parts)) ⌝ }
+    requires { ⌜ (length (now words) ≡ 238) × (reads ≤ 16) × (chunks ≤ 4) × (total (take chunks (countsIn (now words))) ≤ 16) × (replies ≤ 16) ⌝ }
+    ensures { λ r. ⌜ ((parts : List ℕ) → length parts ≡ (reads * 24 + 4) + ((chunks * 8 + total (take chunks (countsIn (now (words .entry)))) * 16 + 4) + cond present (8 + replies * 16) 4) → r ≡ 16 + length (restBytes kind parts)) ⌝ }
 {
     let Kind::Error(e) = kind else {
-        let segments = total_count(counts, chunks) as usize;
+        let segments = total_count(words, chunks);
         return header::FIXED_BYTES
             + lists_length(reads, chunks, segments, reply_length(present, replies));
     };
-    header::FIXED_BYTES + error_length(e)
+    error_length(e)
 }
 
 // The number that writing a header into `room` bytes gives.
-fn write_number(h: Header, room: usize) -> u32
-    ensures { λ r. ⌜ r ≡ writeNumber h room ⌝ }
+fn write_number(words: &[u32], kind: Kind, present: bool, room: usize) -> u32
+    requires { ⌜ length (now words) ≡ 238 ⌝ }
+    ensures { λ r. ⌜ r ≡ writeNumber (headerAs (now (words .entry)) kind present) room ⌝ }
 {
-    let kind = h.kind;
-    let reads = h.reads;
-    let writes = h.writes;
-    let reply = h.reply;
-    let counts = writes.counts;
-    let segments = reads.segments;
-    if !bare_if_error(kind, reads.count, writes.chunks, reply.present) {
+    let reads = words[header::READ_COUNT_AT] as usize;
+    let chunks = words[header::WRITE_CHUNKS_AT] as usize;
+    let replies = words[header::REPLY_COUNT_AT] as usize;
+    if !bare_if_error(kind, reads, chunks, present) {
         return wire::KIND_AND_LISTS;
     }
-    if !within_limits(
-        reads.count,
-        writes.chunks,
-        counts,
-        reply.present,
-        reply.count,
-    ) {
+    if !within_limits(words, reads, chunks, present, replies) {
         return lists::OVER_LIMIT;
     }
-    let n = reads.count as usize;
-    let fault = lists::positions_number(segments, n);
+    let fault = lists::positions_in(words, reads);
     if fault != 0 {
         return fault;
     }
-    let length = header_length(
-        kind,
-        n,
-        writes.chunks as usize,
-        counts,
-        reply.present,
-        reply.count as usize,
-    );
+    let length = header_length(words, kind, reads, chunks, present, replies);
     if LONGEST_HEADER < length {
         return HEADER_LONG;
     }
@@ -171,91 +169,117 @@ fn write_number(h: Header, room: usize) -> u32
     0
 }
 
-// Writes n segments from place i of `segments` on.
-fn put_segments(out: &mut [u8], k: usize, segments: [Segment; 16], i: usize, n: usize)
-    requires { ⌜ (k + n * 16 ≤ length (now out)) × (i + n ≤ 16) ⌝ }
-    ensures { λ _. ⌜ now (out .exit) ≡ stored (now (out .entry)) k (joined segmentBytes (take n (drop i segments))) ⌝ }
+// Writes the segment in the words from `from` on. Each word is read where it is written: the compiler then stores it whole.
+fn encode_segment(out: &mut [u8], k: usize, words: &[u32], from: usize)
+    requires { ⌜ (k + 16 ≤ length (now out)) × (from + 4 ≤ length (now words)) ⌝ }
+    ensures { λ _. ⌜ now (out .exit) ≡ stored (now (out .entry)) k (segmentBytes (segmentIn (drop from (now (words .entry))))) ⌝ }
+{
+    wire::put_word(out, k, words[from + wire::HANDLE_AT]);
+    wire::put_word(out, k + LENGTH_BYTE, words[from + wire::LENGTH_AT]);
+    wire::put_word(
+        out,
+        k + OFFSET_HIGH_BYTE,
+        words[from + wire::OFFSET_HIGH_AT],
+    );
+    wire::put_word(out, k + OFFSET_LOW_BYTE, words[from + wire::OFFSET_LOW_AT]);
+}
+
+// Writes a marker and the read segment in the words from `from` on.
+fn encode_entry(out: &mut [u8], k: usize, words: &[u32], from: usize)
+    requires { ⌜ (k + 24 ≤ length (now out)) × (from + 6 ≤ length (now words)) ⌝ }
+    ensures { λ _. ⌜ now (out .exit) ≡ stored (now (out .entry)) k (entryBytes (readSegmentIn (drop from (now (words .entry))))) ⌝ }
+{
+    wire::put_word(out, k, ENTRY);
+    wire::put_word(out, k + wire::WORD_BYTES, words[from + wire::POSITION_AT]);
+    encode_segment(out, k + ENTRY_HEAD_BYTES, words, from + wire::TARGET_AT);
+}
+
+// Writes the n entries of the read list and its end.
+fn encode_read_list(out: &mut [u8], k: usize, words: &[u32], n: usize)
+    requires { ⌜ (k + 4 + n * 24 ≤ length (now out)) × (96 ≤ length (now words)) × (n ≤ 16) ⌝ }
+    ensures { λ _. ⌜ now (out .exit) ≡ stored (now (out .entry)) k (readListBytes (take n (readsIn (now (words .entry))))) ⌝ }
 {
     for j in 0..n {
-        let x = segments[i + j];
-        wire::put_segment(out, k + j * wire::SEGMENT_BYTES, x);
+        encode_entry(
+            out,
+            k + j * lists::MARKED_ENTRY_BYTES,
+            words,
+            j * wire::READ_SEGMENT_WORDS,
+        );
+    }
+    wire::put_word(out, k + n * lists::MARKED_ENTRY_BYTES, END);
+}
+
+// Writes n segments, from the i-th place of those at word `from` on.
+fn encode_segments(out: &mut [u8], k: usize, words: &[u32], from: usize, i: usize, n: usize)
+    requires { ⌜ (k + n * 16 ≤ length (now out)) × (from + 64 ≤ length (now words)) × (i + n ≤ 16) ⌝ }
+    ensures { λ _. ⌜ now (out .exit) ≡ stored (now (out .entry)) k (joined segmentBytes (take n (drop i (segmentsIn from (now (words .entry)))))) ⌝ }
+{
+    for j in 0..n {
+        encode_segment(
+            out,
+            k + j * wire::SEGMENT_BYTES,
+            words,
+            from + (i + j) * wire::SEGMENT_WORDS,
+        );
     }
 }
 
 // Writes a chunk behind its marker: a count and its segments.
-fn put_chunk(out: &mut [u8], k: usize, segments: [Segment; 16], i: usize, n: usize)
-    requires { ⌜ (k + 8 + n * 16 ≤ length (now out)) × (i + n ≤ 16) ⌝ }
-    ensures { λ _. ⌜ now (out .exit) ≡ stored (now (out .entry)) k (chunkBytes (take n (drop i segments))) ⌝ }
+fn encode_chunk(out: &mut [u8], k: usize, words: &[u32], from: usize, i: usize, n: usize)
+    requires { ⌜ (k + 8 + n * 16 ≤ length (now out)) × (from + 64 ≤ length (now words)) × (i + n ≤ 16) ⌝ }
+    ensures { λ _. ⌜ now (out .exit) ≡ stored (now (out .entry)) k (chunkBytes (take n (drop i (segmentsIn from (now (words .entry)))))) ⌝ }
 {
-    wire::put_word(out, k, 1);
+    wire::put_word(out, k, ENTRY);
     wire::put_word(out, k + wire::WORD_BYTES, n as u32);
-    put_segments(out, k + lists::CHUNK_HEAD_BYTES, segments, i, n);
+    encode_segments(out, k + lists::CHUNK_HEAD_BYTES, words, from, i, n);
 }
 
-// Writes the entries of a read list and its end.
-fn put_reads(out: &mut [u8], k: usize, segments: [ReadSegment; 16], n: usize)
-    requires { ⌜ (k + 4 + n * 24 ≤ length (now out)) × (n ≤ 16) ⌝ }
-    ensures { λ _. ⌜ now (out .exit) ≡ stored (now (out .entry)) k (readListBytes (take n segments)) ⌝ }
-{
-    for j in 0..n {
-        let x = segments[j];
-        wire::put_word(out, k + j * lists::MARKED_ENTRY_BYTES, 1);
-        wire::put_read_segment(out, k + j * lists::MARKED_ENTRY_BYTES + wire::WORD_BYTES, x);
-    }
-    wire::put_word(out, k + n * lists::MARKED_ENTRY_BYTES, 0);
-}
-
-// Writes the n chunks of a write list and its end; answers where it ends.
-fn put_writes(
-    out: &mut [u8],
-    k: usize,
-    segments: [Segment; 16],
-    counts: [u32; 4],
-    n: usize,
-) -> usize
-    requires { ⌜ (n ≤ 4) × (total (take n counts) ≤ 16) × (k + n * 8 + total (take n counts) * 16 + 4 ≤ length (now out)) ⌝ }
-    ensures { λ r. ⌜ (r ≡ k + n * 8 + total (take n counts) * 16 + 4) × (now (out .exit) ≡ stored (now (out .entry)) k (writeListBytes (runs (take n counts) segments))) ⌝ }
+// Writes the n chunks of the write list and its end; answers where it ends.
+fn encode_write_list(out: &mut [u8], k: usize, words: &[u32], n: usize) -> usize
+    requires { ⌜ (length (now words) ≡ 238) × (n ≤ 4) × (total (take n (countsIn (now words))) ≤ 16) × (k + n * 8 + total (take n (countsIn (now words))) * 16 + 4 ≤ length (now out)) ⌝ }
+    ensures { λ r. ⌜ (r ≡ k + n * 8 + total (take n (countsIn (now (words .entry)))) * 16 + 4) × (now (out .exit) ≡ stored (now (out .entry)) k (writeListBytes (runs (take n (countsIn (now (words .entry)))) (segmentsIn 96 (now (words .entry)))))) ⌝ }
 {
     let mut end = k;
     let mut used = 0;
     for j in 0..n {
-        let d = counts[j] as usize;
-        put_chunk(out, end, segments, used, d);
+        let d = words[header::WRITE_COUNTS_AT + j] as usize;
+        encode_chunk(out, end, words, header::WRITES_AT, used, d);
         end += lists::CHUNK_HEAD_BYTES + d * wire::SEGMENT_BYTES;
         used += d;
     }
-    wire::put_word(out, end, 0);
+    wire::put_word(out, end, END);
     end + wire::WORD_BYTES
 }
 
-// Writes a reply chunk, or its absence; answers where it ends.
-fn put_reply(out: &mut [u8], k: usize, segments: [Segment; 16], present: bool, n: usize) -> usize
-    requires { ⌜ (n ≤ 16) × (k + cond present (8 + n * 16) 4 ≤ length (now out)) ⌝ }
-    ensures { λ r. ⌜ (r ≡ k + cond present (8 + n * 16) 4) × (now (out .exit) ≡ stored (now (out .entry)) k (replyBytes (replyOf present (take n segments)))) ⌝ }
+// Writes the reply chunk, or its absence; answers where it ends.
+fn encode_reply_chunk(out: &mut [u8], k: usize, words: &[u32], present: bool, n: usize) -> usize
+    requires { ⌜ (length (now words) ≡ 238) × (n ≤ 16) × (k + cond present (8 + n * 16) 4 ≤ length (now out)) ⌝ }
+    ensures { λ r. ⌜ (r ≡ k + cond present (8 + n * 16) 4) × (now (out .exit) ≡ stored (now (out .entry)) k (replyBytes (replyOf present (take n (segmentsIn 160 (now (words .entry))))))) ⌝ }
 {
     if present {
-        put_chunk(out, k, segments, 0, n);
+        encode_chunk(out, k, words, header::REPLY_AT, 0, n);
         return k + lists::CHUNK_HEAD_BYTES + n * wire::SEGMENT_BYTES;
     }
-    wire::put_word(out, k, 0);
+    wire::put_word(out, k, END);
     k + wire::WORD_BYTES
 }
 
 // Writes what stands behind the fixed words of an ERROR header; answers where it ends.
-fn put_error(out: &mut [u8], k: usize, e: ErrorKind) -> usize
-    requires { ⌜ k + length (errorBytes e) ≤ length (now out) ⌝ }
-    ensures { λ r. ⌜ (r ≡ k + length (errorBytes e)) × (now (out .exit) ≡ stored (now (out .entry)) k (errorBytes e)) ⌝ }
+fn encode_error(out: &mut [u8], e: ErrorKind) -> usize
+    requires { ⌜ 16 + length (errorBytes e) ≤ length (now out) ⌝ }
+    ensures { λ r. ⌜ (r ≡ 16 + length (errorBytes e)) × (now (out .exit) ≡ stored (now (out .entry)) 16 (errorBytes e)) ⌝ }
 {
     match e {
         ErrorKind::Version(low, high) => {
-            wire::put_word(out, k, header::CODE_VERSION);
-            wire::put_word(out, k + wire::WORD_BYTES, low);
-            wire::put_word(out, k + 8, high);
-            k + VERSION_ERROR_BYTES
+            wire::put_word(out, header::CODE_AT, header::CODE_VERSION);
+            wire::put_word(out, header::LOW_AT, low);
+            wire::put_word(out, header::HIGH_AT, high);
+            header::VERSION_ERROR_BYTES
         }
         ErrorKind::Chunk => {
-            wire::put_word(out, k, header::CODE_CHUNK);
-            k + wire::WORD_BYTES
+            wire::put_word(out, header::CODE_AT, header::CODE_CHUNK);
+            header::CHUNK_ERROR_BYTES
         }
     }
 }
@@ -271,7 +295,7 @@ fn procedure_of(kind: Kind) -> u32
 }
 
 // Writes the fixed words.
-fn put_fixed(out: &mut [u8], kind: Kind, xid: u32, credit: u32)
+fn encode_fixed(out: &mut [u8], kind: Kind, xid: u32, credit: u32)
     requires { ⌜ 16 ≤ length (now out) ⌝ }
     ensures { λ _. ⌜ now (out .exit) ≡ stored (now (out .entry)) 0 (fixedBytes kind xid credit) ⌝ }
 {
@@ -282,51 +306,78 @@ fn put_fixed(out: &mut [u8], kind: Kind, xid: u32, credit: u32)
 }
 
 // Writes the three parts behind the fixed words; answers where they end.
-fn put_lists(out: &mut [u8], reads: ReadList, writes: WriteList, reply: ReplyChunk) -> usize
-    requires { ⌜ (withinLimits (reads .count) (writes .chunks) (writes .counts) (reply .present) (reply .count) ≡ true) × (16 + length (partsOf reads writes reply) ≤ length (now out)) ⌝ }
-    ensures { λ r. ⌜ (r ≡ 16 + length (partsOf reads writes reply)) × (now (out .exit) ≡ stored (now (out .entry)) 16 (partsOf reads writes reply)) ⌝ }
+fn encode_lists(out: &mut [u8], words: &[u32], present: bool) -> usize
+    requires { ⌜ (length (now words) ≡ 238) × (limitsKept (now words) present ≡ true) × (16 + length (partsIn (now words) present) ≤ length (now out)) ⌝ }
+    ensures { λ r. ⌜ (r ≡ 16 + length (partsIn (now (words .entry)) present)) × (now (out .exit) ≡ stored (now (out .entry)) 16 (partsIn (now (words .entry)) present)) ⌝ }
 {
-    let segments = reads.segments;
-    let n = reads.count as usize;
-    put_reads(out, header::FIXED_BYTES, segments, n);
-    let chunks = writes.segments;
-    let counts = writes.counts;
-    let end = put_writes(
+    let n = words[header::READ_COUNT_AT] as usize;
+    encode_read_list(out, header::FIXED_BYTES, words, n);
+    let end = encode_write_list(
         out,
         header::EMPTY_READS_BYTES + n * lists::MARKED_ENTRY_BYTES,
-        chunks,
-        counts,
-        writes.chunks as usize,
+        words,
+        words[header::WRITE_CHUNKS_AT] as usize,
     );
-    let replies = reply.segments;
-    put_reply(out, end, replies, reply.present, reply.count as usize)
+    encode_reply_chunk(
+        out,
+        end,
+        words,
+        present,
+        words[header::REPLY_COUNT_AT] as usize,
+    )
 }
 
 // Writes a header that has passed its checks; answers its length.
-fn put_header(out: &mut [u8], h: Header) -> usize
-    requires { ⌜ (withinLimits (h .reads .count) (h .writes .chunks) (h .writes .counts) (h .reply .present) (h .reply .count) ≡ true) × (length (headerBytes (contentOf h)) ≤ length (now out)) ⌝ }
-    ensures { λ r. ⌜ (r ≡ length (headerBytes (contentOf h))) × (now (out .exit) ≡ stored (now (out .entry)) 0 (headerBytes (contentOf h))) ⌝ }
+fn encode_header(out: &mut [u8], words: &[u32], kind: Kind, present: bool) -> usize
+    requires { ⌜ (length (now words) ≡ 238) × (limitsKept (now words) present ≡ true) × (length (headerBytes (contentOf (headerAs (now words) kind present))) ≤ length (now out)) ⌝ }
+    ensures { λ r. ⌜ (r ≡ length (headerBytes (contentOf (headerAs (now (words .entry)) kind present)))) × (now (out .exit) ≡ stored (now (out .entry)) 0 (headerBytes (contentOf (headerAs (now (words .entry)) kind present)))) ⌝ }
 {
-    let kind = h.kind;
-    put_fixed(out, kind, h.xid, h.credit);
+    encode_fixed(
+        out,
+        kind,
+        words[header::XID_WORD_AT],
+        words[header::CREDIT_WORD_AT],
+    );
     let Kind::Error(e) = kind else {
-        let reads = h.reads;
-        let writes = h.writes;
-        let reply = h.reply;
-        return put_lists(out, reads, writes, reply);
+        return encode_lists(out, words, present);
     };
-    put_error(out, header::FIXED_BYTES, e)
+    encode_error(out, e)
 }
 
-// Writes a header at the front of a buffer and keeps the bytes behind it.
+// Writes the header that the words hold at the front of a buffer, keeps the bytes behind it, and stores how many bytes it has.
+pub fn write_words(words: &[u32; 238], out: &mut [u8], size: &mut usize) -> u32
+    ensures answer { λ r. ⌜ r ≡ lentAnswer (headerIn (now (words .entry))) (length (now (out .entry))) .number ⌝ }
+    ensures size { λ _. ⌜ now (size .exit) ≡ unlessRefused (lentAnswer (headerIn (now (words .entry))) (length (now (out .entry))) .number) (lentAnswer (headerIn (now (words .entry))) (length (now (out .entry))) .length) (now (size .entry)) ⌝ }
+    ensures buffer { λ _. ⌜ now (out .exit) ≡ lentBuffer (headerIn (now (words .entry))) (now (out .entry)) ⌝ }
+{
+    let known = header::kind_in(
+        words[header::KIND_WORD_AT],
+        words[header::LOW_WORD_AT],
+        words[header::HIGH_WORD_AT],
+    );
+    let Known::Is(kind) = known else {
+        return wire::BAD_ARGUMENT;
+    };
+    let flag = words[header::REPLY_PRESENT_AT];
+    if wire::FLAG_SET < flag {
+        return wire::BAD_ARGUMENT;
+    }
+    let present = flag == wire::FLAG_SET;
+    let number = write_number(words, kind, present, out.len());
+    if number != 0 {
+        return number;
+    }
+    *size = encode_header(out, words, kind, present);
+    0
+}
+
+// The same of a header by value.
 pub fn write_header(h: Header, out: &mut [u8]) -> WriteAnswer
     ensures answer { λ r. ⌜ r ≡ writeAnswer h (length (now (out .entry))) ⌝ }
     ensures buffer { λ _. ⌜ now (out .exit) ≡ writtenInto h (now (out .entry)) ⌝ }
 {
-    let number = write_number(h, out.len());
-    if number != 0 {
-        return wire::nothing_written(number);
-    }
-    let length = put_header(out, h);
-    WriteAnswer { number: 0, length }
+    let words = header::words_of(h);
+    let mut length: usize = 0;
+    let number = write_words(&words, out, &mut length);
+    WriteAnswer { number, length }
 }

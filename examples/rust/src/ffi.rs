@@ -1,11 +1,32 @@
 //! The structs and calls of include/eoswynnor.h.
 
-use crate::{ReadSegment, Segment, Setup};
+use crate::{Agreement, ReadSegment, Segment, Setup};
+
+/// A read segment with the reserved word that fills its hole.
+#[repr(C)]
+#[derive(Clone, Copy, Debug, Default)]
+pub struct FlatRead {
+    pub position: u32,
+    pub reserved: u32,
+    pub target: Segment,
+}
+
+impl From<ReadSegment> for FlatRead {
+    fn from(read: ReadSegment) -> FlatRead {
+        FlatRead { position: read.position, reserved: 0, target: read.target }
+    }
+}
+
+impl From<FlatRead> for ReadSegment {
+    fn from(read: FlatRead) -> ReadSegment {
+        ReadSegment { position: read.position, target: read.target }
+    }
+}
 
 #[repr(C)]
 #[derive(Clone, Copy, Debug, Default)]
 pub struct Header {
-    pub reads: [ReadSegment; 16],
+    pub reads: [FlatRead; 16],
     pub writes: [Segment; 16],
     pub reply: [Segment; 16],
     pub write_counts: [u32; 4],
@@ -18,18 +39,7 @@ pub struct Header {
     pub high: u32,
     pub xid: u32,
     pub credit: u32,
-}
-
-#[repr(C)]
-pub struct ReadAnswer {
-    pub header: Header,
-    pub number: u32,
-}
-
-#[repr(C)]
-pub struct WriteAnswer {
-    pub number: u32,
-    pub length: usize,
+    pub reserved: u32,
 }
 
 #[repr(C)]
@@ -39,6 +49,7 @@ pub struct Part {
 }
 
 #[repr(C)]
+#[derive(Default)]
 pub struct FlatSetup {
     pub remote_invalidation: u32,
     pub send: u32,
@@ -52,31 +63,32 @@ impl From<Setup> for FlatSetup {
     }
 }
 
-#[repr(C)]
-pub struct SetupAnswer {
-    pub setup: FlatSetup,
-    pub present: u32,
-    pub number: u32,
+impl From<FlatSetup> for Setup {
+    fn from(flat: FlatSetup) -> Setup {
+        let FlatSetup { remote_invalidation, send, receive } = flat;
+        Setup { remote_invalidation: remote_invalidation == 1, send, receive }
+    }
 }
 
 #[repr(C)]
-pub struct Agreement {
+#[derive(Default)]
+pub struct FlatAgreement {
     pub client_to_server: u32,
     pub server_to_client: u32,
     pub remote_invalidation: u32,
-    pub number: u32,
+}
+
+impl From<FlatAgreement> for Agreement {
+    fn from(flat: FlatAgreement) -> Agreement {
+        let FlatAgreement { client_to_server, server_to_client, remote_invalidation } = flat;
+        Agreement { client_to_server, server_to_client, remote_invalidation: remote_invalidation == 1 }
+    }
 }
 
 #[repr(C)]
-pub struct GrantAnswer {
-    pub credit: u32,
-    pub number: u32,
-}
-
-#[repr(C)]
-#[derive(Clone, Copy, Debug)]
+#[derive(Clone, Copy, Debug, Default)]
 pub struct State {
-    pub reads: [ReadSegment; 16],
+    pub reads: [FlatRead; 16],
     pub base: usize,
     pub buffer: usize,
     pub taken: usize,
@@ -84,27 +96,28 @@ pub struct State {
     pub kind: u32,
 }
 
-#[repr(C)]
-pub struct StateAnswer {
-    pub state: State,
-    pub number: u32,
-}
-
-const _: () = assert!(size_of::<Segment>() == 16 && size_of::<ReadSegment>() == 24);
-const _: () = assert!(size_of::<Header>() == 952 && size_of::<ReadAnswer>() == 960);
-const _: () = assert!(size_of::<FlatSetup>() == 12 && size_of::<SetupAnswer>() == 20);
-const _: () = assert!(size_of::<Agreement>() == 16 && size_of::<GrantAnswer>() == 8);
-const _: () = assert!(size_of::<State>() == 416 && size_of::<StateAnswer>() == 424);
+const _: () = assert!(size_of::<Segment>() == 16 && size_of::<FlatRead>() == 24);
+const _: () = assert!(size_of::<Header>() == 952 && size_of::<State>() == 416);
+const _: () = assert!(size_of::<FlatSetup>() == 12 && size_of::<FlatAgreement>() == 12);
 
 #[link(name = "eoswynnor", kind = "static")]
 extern "C" {
-    pub fn eos_read_header(frame: *const u8, frame_len: usize) -> ReadAnswer;
+    pub fn eos_read_header(frame: *const u8, frame_len: usize, header: *mut Header) -> u32;
     pub fn eos_payload(frame: *const u8, frame_len: usize) -> Part;
-    pub fn eos_write_header(h: *const Header, out: *mut u8, out_len: usize) -> WriteAnswer;
-    pub fn eos_read_setup(bytes: *const u8, bytes_len: usize) -> SetupAnswer;
-    pub fn eos_write_setup(x: FlatSetup, out: *mut u8, out_len: usize) -> WriteAnswer;
-    pub fn eos_agree(client: FlatSetup, server: FlatSetup) -> Agreement;
-    pub fn eos_grant(asked: u32, limit: u32) -> GrantAnswer;
+    pub fn eos_write_header(header: *const Header, out: *mut u8, out_len: usize, length: *mut usize) -> u32;
+    pub fn eos_read_setup(
+        bytes: *const u8,
+        bytes_len: usize,
+        setup: *mut FlatSetup,
+        present: *mut u32,
+    ) -> u32;
+    pub fn eos_write_setup(setup: *const FlatSetup, out: *mut u8, out_len: usize, length: *mut usize) -> u32;
+    pub fn eos_agree(
+        client: *const FlatSetup,
+        server: *const FlatSetup,
+        agreement: *mut FlatAgreement,
+    ) -> u32;
+    pub fn eos_grant(asked: u32, limit: u32, credit: *mut u32) -> u32;
     pub fn eos_error_reply(
         frame: *const u8,
         frame_len: usize,
@@ -112,15 +125,21 @@ extern "C" {
         limit: u32,
         out: *mut u8,
         out_len: usize,
-    ) -> WriteAnswer;
-    pub fn eos_start(frame: *const u8, frame_len: usize, out: *mut u8, out_len: usize) -> StateAnswer;
+        length: *mut usize,
+    ) -> u32;
+    pub fn eos_start(
+        frame: *const u8,
+        frame_len: usize,
+        out: *mut u8,
+        out_len: usize,
+        state: *mut State,
+    ) -> u32;
     pub fn eos_take_piece(
-        s: *mut State,
+        state: *mut State,
         piece: *const u8,
         piece_len: usize,
         out: *mut u8,
         out_len: usize,
     ) -> u32;
-    pub fn eos_ask(s: *const State, out: *const u8, out_len: usize) -> u32;
-    pub fn eos_message(s: *const State, out: *const u8, out_len: usize) -> Part;
+    pub fn eos_message(state: *const State, out: *const u8, out_len: usize, length: *mut usize) -> u32;
 }

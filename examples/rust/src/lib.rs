@@ -53,11 +53,12 @@ impl fmt::Display for Refusal {
 
 impl std::error::Error for Refusal {}
 
-fn done<T>(number: u32, value: T) -> Result<T, Refusal> {
-    if number == 0 {
-        Ok(value)
-    } else {
-        Err(Refusal(number))
+/// Makes a call that stores into a place; hands out what it stored. A refused call stores nothing.
+fn stored<T: Default>(call: impl FnOnce(&mut T) -> u32) -> Result<T, Refusal> {
+    let mut place = T::default();
+    match call(&mut place) {
+        0 => Ok(place),
+        number => Err(Refusal(number)),
     }
 }
 
@@ -71,7 +72,6 @@ pub struct Segment {
 }
 
 /// A segment to be pulled, and where in the message its bytes go.
-#[repr(C)]
 #[derive(Clone, Copy, Debug, Default, PartialEq, Eq)]
 pub struct ReadSegment {
     pub position: u32,
@@ -100,8 +100,8 @@ pub struct Header {
 impl Header {
     /// Reads the header of a frame. Numbers 1 to 11.
     pub fn read(frame: &[u8]) -> Result<Header, Refusal> {
-        let answer = unsafe { ffi::eos_read_header(frame.as_ptr(), frame.len()) };
-        let flat = done(answer.number, answer.header)?;
+        let flat =
+            stored::<ffi::Header>(|flat| unsafe { ffi::eos_read_header(frame.as_ptr(), frame.len(), flat) })?;
         let kind = match flat.kind {
             0 => Kind::Msg,
             1 => Kind::Nomsg,
@@ -114,7 +114,7 @@ impl Header {
             xid: flat.xid,
             credit: flat.credit,
             kind,
-            reads: flat.reads[..flat.read_count as usize].to_vec(),
+            reads: flat.reads[..flat.read_count as usize].iter().map(|&read| read.into()).collect(),
             writes: counts.iter().map(|&count| places.by_ref().take(count as usize).collect()).collect(),
             reply: (flat.reply_present == 1).then(|| flat.reply[..flat.reply_count as usize].to_vec()),
         })
@@ -123,8 +123,7 @@ impl Header {
     /// Writes the header to the front of a buffer; answers its length. An inline payload goes right behind it. Numbers 12, 7, 9,
     /// 8, 16.
     pub fn write(&self, out: &mut [u8]) -> Result<usize, Refusal> {
-        let answer = unsafe { ffi::eos_write_header(&self.flat(), out.as_mut_ptr(), out.len()) };
-        done(answer.number, answer.length)
+        stored(|length| unsafe { ffi::eos_write_header(&self.flat(), out.as_mut_ptr(), out.len(), length) })
     }
 
     /// Counts are handed on as they are, so that the library judges a list that is too long; its entries are not looked at.
@@ -148,7 +147,7 @@ impl Header {
             credit: self.credit,
             ..ffi::Header::default()
         };
-        flat.reads.iter_mut().zip(&self.reads).for_each(|(place, read)| *place = *read);
+        flat.reads.iter_mut().zip(&self.reads).for_each(|(place, read)| *place = (*read).into());
         flat.writes
             .iter_mut()
             .zip(self.writes.iter().flatten())
@@ -188,33 +187,29 @@ pub struct Agreement {
 impl Setup {
     /// The setup data, or what counts in its place, and whether it was there.
     pub fn read(bytes: &[u8]) -> (Setup, bool) {
-        let answer = unsafe { ffi::eos_read_setup(bytes.as_ptr(), bytes.len()) };
-        let ffi::FlatSetup { remote_invalidation, send, receive } = answer.setup;
-        (Setup { remote_invalidation: remote_invalidation == 1, send, receive }, answer.present == 1)
+        let (mut setup, mut present) = (ffi::FlatSetup::default(), 0);
+        // Always number 0.
+        unsafe { ffi::eos_read_setup(bytes.as_ptr(), bytes.len(), &mut setup, &mut present) };
+        (setup.into(), present == 1)
     }
 
     /// Writes the setup data to the front of a buffer; answers its length.
     pub fn write(self, out: &mut [u8]) -> Result<usize, Refusal> {
-        let answer = unsafe { ffi::eos_write_setup(self.into(), out.as_mut_ptr(), out.len()) };
-        done(answer.number, answer.length)
+        stored(|length| unsafe { ffi::eos_write_setup(&self.into(), out.as_mut_ptr(), out.len(), length) })
     }
 
     /// The size for each direction, and whether remote invalidation may be used.
     pub fn agree(client: Setup, server: Setup) -> Result<Agreement, Refusal> {
-        let answer = unsafe { ffi::eos_agree(client.into(), server.into()) };
-        let agreement = Agreement {
-            client_to_server: answer.client_to_server,
-            server_to_client: answer.server_to_client,
-            remote_invalidation: answer.remote_invalidation == 1,
-        };
-        done(answer.number, agreement)
+        stored::<ffi::FlatAgreement>(|agreement| unsafe {
+            ffi::eos_agree(&client.into(), &server.into(), agreement)
+        })
+        .map(Agreement::from)
     }
 }
 
 /// The credits to grant to one who asks, under our limit.
 pub fn grant(asked: u32, limit: u32) -> Result<u32, Refusal> {
-    let answer = unsafe { ffi::eos_grant(asked, limit) };
-    done(answer.number, answer.credit)
+    stored(|credit| unsafe { ffi::eos_grant(asked, limit, credit) })
 }
 
 /// Writes the reply to a frame that was refused to the front of a buffer; empty where it gets none, and nothing is to be
@@ -225,29 +220,34 @@ pub fn error_reply<'a>(
     limit: u32,
     out: &'a mut [u8],
 ) -> Result<&'a [u8], Refusal> {
-    let answer = unsafe {
-        ffi::eos_error_reply(frame.as_ptr(), frame.len(), refusal.0, limit, out.as_mut_ptr(), out.len())
-    };
-    done(answer.number, &out[..answer.length])
+    let (place, room) = (out.as_mut_ptr(), out.len());
+    let length = stored(|length| unsafe {
+        ffi::eos_error_reply(frame.as_ptr(), frame.len(), refusal.0, limit, place, room, length)
+    })?;
+    Ok(&out[..length])
 }
 
 /// A call in reassembly, in a buffer that it holds.
 #[derive(Debug)]
 pub struct Assembly<'a> {
     state: ffi::State,
+    /// Those of the state, without its reserved words.
+    reads: [ReadSegment; 16],
     out: &'a mut [u8],
 }
 
 impl<'a> Assembly<'a> {
     /// Starts the reassembly of a call in a buffer that holds its message, or [`LONGEST_MESSAGE`] bytes. Numbers 1 to 16.
     pub fn start(frame: &[u8], out: &'a mut [u8]) -> Result<Assembly<'a>, Refusal> {
-        let answer = unsafe { ffi::eos_start(frame.as_ptr(), frame.len(), out.as_mut_ptr(), out.len()) };
-        done(answer.number, Assembly { state: answer.state, out })
+        let state = stored::<ffi::State>(|state| unsafe {
+            ffi::eos_start(frame.as_ptr(), frame.len(), out.as_mut_ptr(), out.len(), state)
+        })?;
+        Ok(Assembly { reads: state.reads.map(ReadSegment::from), state, out })
     }
 
     /// What is to be pulled, in this order.
     pub fn reads(&self) -> &[ReadSegment] {
-        &self.state.reads[..self.state.read_count as usize]
+        &self.reads[..self.state.read_count as usize]
     }
 
     /// The number of bytes taken so far.
@@ -262,18 +262,18 @@ impl<'a> Assembly<'a> {
 
     /// Takes the next pulled bytes, cut as they come. A refused piece changes nothing. Number 18.
     pub fn take(&mut self, piece: &[u8]) -> Result<(), Refusal> {
-        let out = &mut *self.out;
-        let number = unsafe {
-            ffi::eos_take_piece(&mut self.state, piece.as_ptr(), piece.len(), out.as_mut_ptr(), out.len())
-        };
-        done(number, ())
+        let Assembly { state, out, .. } = self;
+        stored(|()| unsafe {
+            ffi::eos_take_piece(state, piece.as_ptr(), piece.len(), out.as_mut_ptr(), out.len())
+        })
     }
 
     /// The message, once all bytes are in. Number 19.
     pub fn message(&self) -> Result<&[u8], Refusal> {
-        let number = unsafe { ffi::eos_ask(&self.state, self.out.as_ptr(), self.out.len()) };
-        let part = unsafe { ffi::eos_message(&self.state, self.out.as_ptr(), self.out.len()) };
-        done(number, &self.out[part.offset..][..part.length])
+        let length = stored(|length| unsafe {
+            ffi::eos_message(&self.state, self.out.as_ptr(), self.out.len(), length)
+        })?;
+        Ok(&self.out[..length])
     }
 
     /// The message for as long as the buffer was lent, once all bytes are in; else the assembly back, to go on with.

@@ -1,6 +1,8 @@
 //! What the wrapper adds to the library: lists to flat structs and back, refusals, the state kept by an assembly.
 
-use eoswynnor::{error_reply, grant, Assembly, Header, Kind, ReadSegment, Refusal, Segment, Setup};
+use eoswynnor::{
+    error_reply, grant, Agreement, Assembly, Header, Kind, ReadSegment, Refusal, Segment, Setup,
+};
 use eoswynnor::{payload, LONGEST_HEADER, LONGEST_REPLY, SETUP_BYTES};
 
 fn segment(n: u32) -> Segment {
@@ -94,6 +96,12 @@ fn the_other_calls() {
     assert_eq!(client.write(&mut bytes), Ok(8));
     assert_eq!(bytes, [0xf6, 0xab, 0x0e, 0x18, 1, 1, 3, 7]);
     assert_eq!(Setup::read(&bytes), (client, true));
+    let none = Setup { remote_invalidation: false, send: 1024, receive: 1024 };
+    assert_eq!(Setup::read(&bytes[..7]), (none, false));
+    assert_eq!(client.write(&mut bytes[..7]), Err(Refusal(16)));
+    let server = Setup { remote_invalidation: true, send: 262_144, receive: 3072 };
+    let agreement = Agreement { client_to_server: 3072, server_to_client: 8192, remote_invalidation: true };
+    assert_eq!(Setup::agree(client, server), Ok(agreement));
     let odd = Setup { send: 4097, ..client };
     assert_eq!(Setup::agree(client, odd), Err(Refusal(20)));
     assert_eq!(Refusal(14).to_string(), "a chunk's position overlaps or lies past the base");

@@ -3,16 +3,26 @@
 use crate::assembly::State;
 use crate::oracle::{self, Fault, Header, Kind, ReadSegment, Reply, Segment};
 use crate::setup::{Agreement, Setup};
+use std::fmt::Debug;
 
 pub const MSG: u32 = 0;
 pub const NOMSG: u32 = 1;
 pub const ERROR_VERSION: u32 = 2;
 pub const ERROR_CHUNK: u32 = 3;
 
+/// A read segment with the reserved word that C sees.
+#[repr(C)]
+#[derive(Clone, Copy, Debug, Default, PartialEq, Eq)]
+pub struct FlatRead {
+    pub position: u32,
+    pub reserved: u32,
+    pub target: Segment,
+}
+
 #[repr(C)]
 #[derive(Clone, Copy, Debug, PartialEq, Eq)]
 pub struct Flat {
-    pub reads: [ReadSegment; 16],
+    pub reads: [FlatRead; 16],
     pub writes: [Segment; 16],
     pub reply: [Segment; 16],
     pub write_counts: [u32; 4],
@@ -25,6 +35,7 @@ pub struct Flat {
     pub high: u32,
     pub xid: u32,
     pub credit: u32,
+    pub reserved: u32,
 }
 
 impl Flat {
@@ -33,23 +44,9 @@ impl Flat {
 }
 
 #[repr(C)]
-#[derive(Clone, Copy)]
-pub struct ReadAnswer {
-    pub header: Flat,
-    pub number: u32,
-}
-
-#[repr(C)]
 #[derive(Clone, Copy, Debug, Default, PartialEq, Eq)]
 pub struct Part {
     pub offset: usize,
-    pub length: usize,
-}
-
-#[repr(C)]
-#[derive(Clone, Copy)]
-pub struct WriteAnswer {
-    pub number: u32,
     pub length: usize,
 }
 
@@ -63,33 +60,17 @@ pub struct FlatSetup {
 }
 
 #[repr(C)]
-#[derive(Clone, Copy, Debug, PartialEq, Eq)]
-pub struct FlatSetupAnswer {
-    pub setup: FlatSetup,
-    pub present: u32,
-    pub number: u32,
-}
-
-#[repr(C)]
 #[derive(Clone, Copy, Debug, Default, PartialEq, Eq)]
 pub struct FlatAgreement {
     pub client_to_server: u32,
     pub server_to_client: u32,
     pub remote_invalidation: u32,
-    pub number: u32,
-}
-
-#[repr(C)]
-#[derive(Clone, Copy, Debug, Default, PartialEq, Eq)]
-pub struct FlatGrant {
-    pub credit: u32,
-    pub number: u32,
 }
 
 #[repr(C)]
 #[derive(Clone, Copy, Debug, PartialEq, Eq)]
 pub struct FlatState {
-    pub reads: [ReadSegment; 16],
+    pub reads: [FlatRead; 16],
     pub base: usize,
     pub buffer: usize,
     pub taken: usize,
@@ -101,20 +82,43 @@ impl FlatState {
     pub const ZERO: FlatState = unsafe { std::mem::zeroed() };
 }
 
-#[repr(C)]
-#[derive(Clone, Copy, Debug, PartialEq, Eq)]
-pub struct FlatStateAnswer {
-    pub state: FlatState,
-    pub number: u32,
+// As many bytes as the fields have together: no holes.
+const _: () = assert!(size_of::<Segment>() == 16 && size_of::<FlatRead>() == 24);
+const _: () = assert!(size_of::<Flat>() == 16 * (24 + 16 + 16) + 14 * 4);
+const _: () = assert!(size_of::<FlatSetup>() == 12 && size_of::<FlatAgreement>() == 12);
+const _: () = assert!(size_of::<FlatState>() == 16 * 24 + 3 * 8 + 2 * 4);
+
+/// Numbers alone and no holes: any bytes are a value, and equal values are equal bytes.
+///
+/// # Safety
+/// That has to be so.
+pub unsafe trait Words: Copy + PartialEq + Debug {}
+
+unsafe impl Words for u32 {}
+unsafe impl Words for usize {}
+unsafe impl Words for Flat {}
+unsafe impl Words for FlatSetup {}
+unsafe impl Words for FlatAgreement {}
+unsafe impl Words for FlatState {}
+
+impl From<ReadSegment> for FlatRead {
+    fn from(entry: ReadSegment) -> Self {
+        FlatRead { position: entry.position, reserved: 0, target: entry.target }
+    }
 }
 
-const _: () = assert!(size_of::<Segment>() == 16 && size_of::<ReadSegment>() == 24);
-const _: () = assert!(size_of::<Flat>() == 952 && size_of::<ReadAnswer>() == 960);
-const _: () = assert!(size_of::<FlatSetup>() == 12 && size_of::<FlatSetupAnswer>() == 20);
-const _: () = assert!(size_of::<FlatAgreement>() == 16 && size_of::<FlatGrant>() == 8);
-const _: () = assert!(size_of::<FlatState>() == 416 && size_of::<FlatStateAnswer>() == 424);
+/// The reserved word is ignored.
+impl From<FlatRead> for ReadSegment {
+    fn from(entry: FlatRead) -> Self {
+        ReadSegment { position: entry.position, target: entry.target }
+    }
+}
 
-/// A header within the limits, unused places zero.
+fn place_reads(places: &mut [FlatRead], reads: &[ReadSegment]) {
+    places[..reads.len()].iter_mut().zip(reads).for_each(|(place, entry)| *place = (*entry).into());
+}
+
+/// A header within the limits, unused places and reserved words zero.
 pub fn flatten(header: &Header) -> Flat {
     let mut flat = Flat {
         read_count: header.reads.len() as u32,
@@ -135,7 +139,7 @@ pub fn flatten(header: &Header) -> Flat {
         }
     };
     let counts: Vec<u32> = header.writes.iter().map(|chunk| chunk.len() as u32).collect();
-    flat.reads[..header.reads.len()].copy_from_slice(&header.reads);
+    place_reads(&mut flat.reads, &header.reads);
     flat.write_counts[..counts.len()].copy_from_slice(&counts);
     let writes = header.writes.concat();
     flat.writes[..writes.len()].copy_from_slice(&writes);
@@ -163,7 +167,7 @@ pub fn unflatten(flat: &Flat) -> Result<Header, u32> {
         xid: flat.xid,
         credit: flat.credit,
         kind,
-        reads: cut(flat.reads.iter().copied(), flat.read_count, oracle::MAX_READS),
+        reads: cut(flat.reads.iter().map(|&entry| entry.into()), flat.read_count, oracle::MAX_READS),
         writes: counts.map(|count| cut(places.by_ref(), count, oracle::MAX_WRITE_SEGMENTS)).collect(),
         reply: Reply {
             present: flat.reply_present == 1,
@@ -191,27 +195,18 @@ pub fn unflatten_setup(flat: &FlatSetup) -> Result<Setup, u32> {
     Ok(Setup { remote_invalidation, send: flat.send, receive: flat.receive })
 }
 
-/// The flat answer to an agreement; a refused one is zero but for its number.
-pub fn flatten_agreement(outcome: Result<Agreement, u32>) -> FlatAgreement {
-    let (agreement, number) = match outcome {
-        Ok(agreement) => (agreement, 0),
-        Err(number) => (Agreement::default(), number),
-    };
-    FlatAgreement {
-        client_to_server: agreement.client_to_server,
-        server_to_client: agreement.server_to_client,
-        remote_invalidation: u32::from(agreement.remote_invalidation),
-        number,
-    }
+pub fn flatten_agreement(agreement: &Agreement) -> FlatAgreement {
+    let &Agreement { client_to_server, server_to_client, remote_invalidation } = agreement;
+    FlatAgreement { client_to_server, server_to_client, remote_invalidation: u32::from(remote_invalidation) }
 }
 
-/// A state that a start or a piece handed back, unused places zero.
+/// A state as a start stores it, unused places and reserved words zero.
 pub fn flatten_state(state: &State) -> FlatState {
     let &State { base, buffer, taken, .. } = state;
     let kind = if state.kind == Kind::Nomsg { NOMSG } else { MSG };
     let read_count = state.reads.len() as u32;
     let mut flat = FlatState { base, buffer, taken, read_count, kind, ..FlatState::ZERO };
-    flat.reads[..state.reads.len()].copy_from_slice(&state.reads);
+    place_reads(&mut flat.reads, &state.reads);
     flat
 }
 
@@ -223,24 +218,27 @@ pub fn unflatten_state(flat: &FlatState) -> Result<State, u32> {
         _ => return Err(17),
     };
     let &FlatState { base, buffer, taken, .. } = flat;
-    let reads = cut(flat.reads.iter().copied(), flat.read_count, oracle::MAX_READS);
+    let reads = cut(flat.reads.iter().map(|&entry| entry.into()), flat.read_count, oracle::MAX_READS);
     Ok(State { kind, reads, base, buffer, taken })
 }
 
 #[cfg(port)]
 mod library {
-    use super::{Flat, FlatAgreement, FlatGrant, FlatSetup, FlatSetupAnswer, FlatState, FlatStateAnswer};
-    use super::{Part, ReadAnswer, WriteAnswer};
+    use super::{Flat, FlatAgreement, FlatSetup, FlatState, Part};
     use crate::check::Port;
 
     extern "C" {
-        fn eos_read_header(frame: *const u8, frame_len: usize) -> ReadAnswer;
+        fn eos_read_header(frame: *const u8, frame_len: usize, header: *mut Flat) -> u32;
         fn eos_payload(frame: *const u8, frame_len: usize) -> Part;
-        fn eos_write_header(header: *const Flat, out: *mut u8, out_len: usize) -> WriteAnswer;
-        fn eos_read_setup(data: *const u8, data_len: usize) -> FlatSetupAnswer;
-        fn eos_write_setup(setup: FlatSetup, out: *mut u8, out_len: usize) -> WriteAnswer;
-        fn eos_agree(client: FlatSetup, server: FlatSetup) -> FlatAgreement;
-        fn eos_grant(asked: u32, limit: u32) -> FlatGrant;
+        fn eos_write_header(header: *const Flat, out: *mut u8, out_len: usize, length: *mut usize) -> u32;
+        fn eos_read_setup(data: *const u8, data_len: usize, setup: *mut FlatSetup, present: *mut u32) -> u32;
+        fn eos_write_setup(setup: *const FlatSetup, out: *mut u8, out_len: usize, length: *mut usize) -> u32;
+        fn eos_agree(
+            client: *const FlatSetup,
+            server: *const FlatSetup,
+            agreement: *mut FlatAgreement,
+        ) -> u32;
+        fn eos_grant(asked: u32, limit: u32, credit: *mut u32) -> u32;
         fn eos_error_reply(
             frame: *const u8,
             frame_len: usize,
@@ -248,8 +246,15 @@ mod library {
             limit: u32,
             out: *mut u8,
             out_len: usize,
-        ) -> WriteAnswer;
-        fn eos_start(frame: *const u8, frame_len: usize, out: *mut u8, out_len: usize) -> FlatStateAnswer;
+            length: *mut usize,
+        ) -> u32;
+        fn eos_start(
+            frame: *const u8,
+            frame_len: usize,
+            out: *mut u8,
+            out_len: usize,
+            state: *mut FlatState,
+        ) -> u32;
         fn eos_take_piece(
             state: *mut FlatState,
             piece: *const u8,
@@ -257,17 +262,16 @@ mod library {
             out: *mut u8,
             out_len: usize,
         ) -> u32;
-        fn eos_ask(state: *const FlatState, out: *const u8, out_len: usize) -> u32;
-        fn eos_message(state: *const FlatState, out: *const u8, out_len: usize) -> Part;
+        fn eos_message(state: *const FlatState, out: *const u8, out_len: usize, length: *mut usize) -> u32;
     }
 
     pub struct Library;
 
-    // Each call is lent exactly the slice it is given.
+    // Each call is lent exactly what it is given.
     impl Port for Library {
         #[inline(always)]
-        fn read(&self, frame: &[u8]) -> ReadAnswer {
-            unsafe { eos_read_header(frame.as_ptr(), frame.len()) }
+        fn read(&self, frame: &[u8], header: &mut Flat) -> u32 {
+            unsafe { eos_read_header(frame.as_ptr(), frame.len(), header) }
         }
 
         #[inline(always)]
@@ -276,40 +280,46 @@ mod library {
         }
 
         #[inline(always)]
-        fn write(&self, header: &Flat, out: &mut [u8]) -> WriteAnswer {
-            unsafe { eos_write_header(header, out.as_mut_ptr(), out.len()) }
+        fn write(&self, header: &Flat, out: &mut [u8], length: &mut usize) -> u32 {
+            unsafe { eos_write_header(header, out.as_mut_ptr(), out.len(), length) }
         }
 
         #[inline(always)]
-        fn read_setup(&self, data: &[u8]) -> FlatSetupAnswer {
-            unsafe { eos_read_setup(data.as_ptr(), data.len()) }
+        fn read_setup(&self, data: &[u8], setup: &mut FlatSetup, present: &mut u32) -> u32 {
+            unsafe { eos_read_setup(data.as_ptr(), data.len(), setup, present) }
         }
 
         #[inline(always)]
-        fn write_setup(&self, setup: FlatSetup, out: &mut [u8]) -> WriteAnswer {
-            unsafe { eos_write_setup(setup, out.as_mut_ptr(), out.len()) }
+        fn write_setup(&self, setup: &FlatSetup, out: &mut [u8], length: &mut usize) -> u32 {
+            unsafe { eos_write_setup(setup, out.as_mut_ptr(), out.len(), length) }
         }
 
         #[inline(always)]
-        fn agree(&self, client: FlatSetup, server: FlatSetup) -> FlatAgreement {
-            unsafe { eos_agree(client, server) }
+        fn agree(&self, client: &FlatSetup, server: &FlatSetup, agreement: &mut FlatAgreement) -> u32 {
+            unsafe { eos_agree(client, server, agreement) }
         }
 
         #[inline(always)]
-        fn grant(&self, asked: u32, limit: u32) -> FlatGrant {
-            unsafe { eos_grant(asked, limit) }
+        fn grant(&self, asked: u32, limit: u32, credit: &mut u32) -> u32 {
+            unsafe { eos_grant(asked, limit, credit) }
         }
 
         #[inline(always)]
-        fn error_reply(&self, frame: &[u8], number: u32, limit: u32, out: &mut [u8]) -> WriteAnswer {
-            unsafe {
-                eos_error_reply(frame.as_ptr(), frame.len(), number, limit, out.as_mut_ptr(), out.len())
-            }
+        fn error_reply(
+            &self,
+            frame: &[u8],
+            number: u32,
+            limit: u32,
+            out: &mut [u8],
+            length: &mut usize,
+        ) -> u32 {
+            let (bytes, room) = (out.as_mut_ptr(), out.len());
+            unsafe { eos_error_reply(frame.as_ptr(), frame.len(), number, limit, bytes, room, length) }
         }
 
         #[inline(always)]
-        fn start(&self, frame: &[u8], out: &mut [u8]) -> FlatStateAnswer {
-            unsafe { eos_start(frame.as_ptr(), frame.len(), out.as_mut_ptr(), out.len()) }
+        fn start(&self, frame: &[u8], out: &mut [u8], state: &mut FlatState) -> u32 {
+            unsafe { eos_start(frame.as_ptr(), frame.len(), out.as_mut_ptr(), out.len(), state) }
         }
 
         #[inline(always)]
@@ -318,13 +328,8 @@ mod library {
         }
 
         #[inline(always)]
-        fn ask(&self, state: &FlatState, out: &mut [u8]) -> u32 {
-            unsafe { eos_ask(state, out.as_mut_ptr(), out.len()) }
-        }
-
-        #[inline(always)]
-        fn message(&self, state: &FlatState, out: &mut [u8]) -> Part {
-            unsafe { eos_message(state, out.as_mut_ptr(), out.len()) }
+        fn message(&self, state: &FlatState, out: &mut [u8], length: &mut usize) -> u32 {
+            unsafe { eos_message(state, out.as_mut_ptr(), out.len(), length) }
         }
     }
 }

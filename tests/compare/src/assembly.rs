@@ -4,7 +4,6 @@ use crate::oracle::{self, Kind, ReadSegment, MAX_READS};
 
 pub const MAX_MESSAGE: u128 = 1_048_576;
 
-/// The default is what a refused start hands back.
 #[derive(Clone, Debug, Default, PartialEq, Eq)]
 pub struct State {
     pub kind: Kind,

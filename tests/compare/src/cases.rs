@@ -6,7 +6,7 @@ pub mod assembly;
 pub mod reply;
 pub mod setup;
 
-use crate::abi::{flatten, unflatten, Flat, ERROR_VERSION};
+use crate::abi::{flatten, unflatten, Flat, FlatRead, ERROR_VERSION};
 use crate::check::{Checker, Outcome, Port, Rng};
 use crate::oracle::{encode, Fault, Header, Kind, ReadSegment, Reply, Segment};
 
@@ -110,12 +110,21 @@ impl Rng {
         frame
     }
 
-    /// The flat header with noise in every unused place, which the writer must ignore.
+    /// Noise in the reserved words of the list; from a generator of its own, so that all else is
+    /// drawn as without it.
+    fn reserved(&self, reads: &mut [FlatRead]) -> Rng {
+        let mut own = Rng(!self.0);
+        reads.iter_mut().for_each(|entry| entry.reserved = own.word());
+        own
+    }
+
+    /// The flat header with noise in every unused place and reserved word, which the writer must ignore.
     fn noisy(&mut self, header: &Header) -> Flat {
         let mut flat = flatten(header);
         for place in &mut flat.reads[header.reads.len()..] {
-            *place = ReadSegment { position: self.word(), target: self.segment() };
+            *place = ReadSegment { position: self.word(), target: self.segment() }.into();
         }
+        flat.reserved = self.reserved(&mut flat.reads).word();
         let writes = &mut flat.writes[header.writes.concat().len()..];
         for place in writes.iter_mut().chain(&mut flat.reply[header.reply.segments.len()..]) {
             *place = self.segment();

@@ -6,28 +6,26 @@ mod assembly;
 pub use assembly::Step;
 
 use crate::abi::{flatten, flatten_agreement, flatten_setup, unflatten, unflatten_setup};
-use crate::abi::{Flat, FlatAgreement, FlatGrant, FlatSetup, FlatSetupAnswer, FlatState, FlatStateAnswer};
-use crate::abi::{Part, ReadAnswer, WriteAnswer};
+use crate::abi::{Flat, FlatAgreement, FlatSetup, FlatState, Part, Words};
 use crate::oracle::{self, Fault, Header, Kind};
 use crate::{reply, setup};
 use std::collections::BTreeMap;
 use std::ops::Range;
 
-/// An implementation under comparison.
+/// An implementation under comparison: each call answers its number and stores what it makes.
 pub trait Port {
-    fn read(&self, frame: &[u8]) -> ReadAnswer;
+    fn read(&self, frame: &[u8], header: &mut Flat) -> u32;
     fn payload(&self, frame: &[u8]) -> Part;
-    fn write(&self, header: &Flat, out: &mut [u8]) -> WriteAnswer;
-    fn read_setup(&self, data: &[u8]) -> FlatSetupAnswer;
-    fn write_setup(&self, setup: FlatSetup, out: &mut [u8]) -> WriteAnswer;
-    fn agree(&self, client: FlatSetup, server: FlatSetup) -> FlatAgreement;
-    fn grant(&self, asked: u32, limit: u32) -> FlatGrant;
-    fn error_reply(&self, frame: &[u8], number: u32, limit: u32, out: &mut [u8]) -> WriteAnswer;
-    fn start(&self, frame: &[u8], out: &mut [u8]) -> FlatStateAnswer;
+    fn write(&self, header: &Flat, out: &mut [u8], length: &mut usize) -> u32;
+    fn read_setup(&self, data: &[u8], setup: &mut FlatSetup, present: &mut u32) -> u32;
+    fn write_setup(&self, setup: &FlatSetup, out: &mut [u8], length: &mut usize) -> u32;
+    fn agree(&self, client: &FlatSetup, server: &FlatSetup, agreement: &mut FlatAgreement) -> u32;
+    fn grant(&self, asked: u32, limit: u32, credit: &mut u32) -> u32;
+    fn error_reply(&self, frame: &[u8], number: u32, limit: u32, out: &mut [u8], length: &mut usize) -> u32;
+    fn start(&self, frame: &[u8], out: &mut [u8], state: &mut FlatState) -> u32;
     fn take_piece(&self, state: &mut FlatState, piece: &[u8], out: &mut [u8]) -> u32;
     // Lent for writing, so that a write shows as a difference.
-    fn ask(&self, state: &FlatState, out: &mut [u8]) -> u32;
-    fn message(&self, state: &FlatState, out: &mut [u8]) -> Part;
+    fn message(&self, state: &FlatState, out: &mut [u8], length: &mut usize) -> u32;
 }
 
 /// Err holds the text of the first difference.
@@ -55,25 +53,89 @@ impl Rng {
             part.copy_from_slice(&noise[..part.len()]);
         }
     }
+
+    /// A value of any bytes.
+    pub fn any<T: Words>(&mut self) -> T {
+        let mut value = unsafe { std::mem::zeroed::<T>() };
+        let bytes = std::ptr::from_mut(&mut value).cast::<u8>();
+        self.fill(unsafe { std::slice::from_raw_parts_mut(bytes, size_of::<T>()) });
+        value
+    }
+}
+
+fn bytes<T: Words>(value: &T) -> &[u8] {
+    unsafe { std::slice::from_raw_parts(std::ptr::from_ref(value).cast(), size_of::<T>()) }
+}
+
+/// A place with noise on both sides; a write there is a difference.
+#[repr(C)]
+#[derive(Clone, Copy, Debug, PartialEq)]
+struct Guarded<T> {
+    ahead: [u32; 4],
+    value: T,
+    behind: [u32; 4],
+}
+
+// Where one is made it is checked to have no hole.
+unsafe impl<T: Words> Words for Guarded<T> {}
+
+/// A struct or number that a call stores into.
+struct Place<T> {
+    now: Guarded<T>,
+    before: Guarded<T>,
+}
+
+impl<T: Words> Place<T> {
+    /// Noise in every word.
+    fn noise(rng: &mut Rng) -> Self {
+        const { assert!(size_of::<Guarded<T>>() == size_of::<T>() + 32, "a hole") }
+        let before = rng.any();
+        Place { now: before, before }
+    }
+
+    fn holding(value: T, rng: &mut Rng) -> Self {
+        let before = Guarded { value, ..rng.any() };
+        Place { now: before, before }
+    }
+
+    fn lent(&mut self) -> &mut T {
+        &mut self.now.value
+    }
+
+    /// Every word as it was.
+    fn kept(&self) -> Outcome {
+        self.holds(self.before.value)
+    }
+
+    fn holds(&self, want: T) -> Outcome {
+        let got = self.now.value;
+        if got != want {
+            let mut pairs = bytes(&got).iter().zip(bytes(&want));
+            let at = pairs.position(|(got, want)| got != want).expect("unequal values");
+            return Err(format!("stored, at byte {at}: got {got:?}\nwant {want:?}"));
+        }
+        if (self.now.ahead, self.now.behind) != (self.before.ahead, self.before.behind) {
+            return Err(format!("a byte beside what was lent was changed; stored: {got:?}"));
+        }
+        Ok(())
+    }
+
+    /// The oracle's number; where it is 0 the oracle's value, else every word as it was.
+    fn judge(&self, number: u32, want: Result<T, u32>) -> Outcome {
+        same_number(number, want.err().unwrap_or(0))?;
+        want.map_or_else(|_| self.kept(), |value| self.holds(value))
+    }
+}
+
+fn same_number(got: u32, want: u32) -> Outcome {
+    if got != want {
+        return Err(format!("number: got {got}, want {want}"));
+    }
+    Ok(())
 }
 
 pub fn hex(bytes: &[u8]) -> String {
     bytes.iter().map(|byte| format!("{byte:02x}")).collect()
-}
-
-fn header_difference(got: &Flat, want: &Flat) -> Outcome {
-    macro_rules! fields {
-        ($($field:ident)*) => {$(
-            if got.$field != want.$field {
-                let name = stringify!($field);
-                let (got, want) = (&got.$field, &want.$field);
-                return Err(format!("{name}: got {got:?}, want {want:?}"));
-            }
-        )*};
-    }
-    fields!(xid credit kind low high read_count write_chunks write_counts reply_present
-        reply_count reads writes reply);
-    Ok(())
 }
 
 /// Where answer numbers are counted; Replied is the reader's number that a reply was made for.
@@ -81,6 +143,7 @@ fn header_difference(got: &Flat, want: &Flat) -> Outcome {
 enum Call {
     Read,
     Write,
+    SetupRead,
     SetupWritten,
     Agreement,
     Grant,
@@ -88,13 +151,14 @@ enum Call {
     Replied,
     Start,
     Piece,
-    Ask,
+    Message,
 }
 
 /// Each call's name and the numbers the families must draw from it.
-const CALLS: [(&str, &[u32]); 10] = [
+const CALLS: [(&str, &[u32]); 11] = [
     ("read", &[0, 1, 2, 3, 4, 5, 6, 7, 8, 9, 10, 11]),
     ("write", &[0, 7, 8, 9, 12, 16, 20]),
+    ("setup read", &[0]),
     ("setup written", &[0, 16, 20]),
     ("agreement", &[0, 20]),
     ("grant", &[0, 20]),
@@ -102,7 +166,7 @@ const CALLS: [(&str, &[u32]); 10] = [
     ("replied", &[0, 1, 2, 3, 4, 5, 6, 7, 8, 9, 10, 11]),
     ("start", &[0, 1, 2, 3, 4, 5, 6, 7, 8, 9, 10, 11, 12, 13, 14, 15, 16]),
     ("piece", &[0, 17, 18]),
-    ("asking", &[0, 17, 19]),
+    ("message", &[0, 17, 19]),
 ];
 
 /// Answers that number 0 does not tell apart; each must be seen too.
@@ -155,9 +219,9 @@ impl Seen {
         self.forms[form as usize] += 1;
     }
 
-    fn reply(&mut self, answer: &WriteAnswer) {
-        self.number(Call::ErrorReply, answer.number);
-        match (answer.number, answer.length) {
+    fn reply(&mut self, number: u32, length: usize) {
+        self.number(Call::ErrorReply, number);
+        match (number, length) {
             (0, 0) => self.form(Form::NoReply),
             (0, 20) => self.form(Form::ChunkReply),
             (0, 28) => self.form(Form::VersionReply),
@@ -257,24 +321,17 @@ impl<P: Port> Checker<P> {
         start..start + room
     }
 
-    /// The answer and every byte of the memory beside what the oracle gives and leaves.
+    /// The number, the length stored and every byte of the memory beside what the oracle gives and leaves.
     fn judge_memory(
         &self,
         lent: &Range<usize>,
-        answer: &WriteAnswer,
+        number: u32,
+        length: &Place<usize>,
         oracle: impl FnOnce(&mut [u8]) -> Result<usize, u32>,
     ) -> Outcome {
         let mut want = self.before.clone();
-        let (number, length) = match oracle(&mut want[lent.clone()]) {
-            Ok(length) => (0, length),
-            Err(number) => (number, 0),
-        };
-        if answer.number != number {
-            return Err(format!("number: got {}, want {number}", answer.number));
-        }
-        if answer.length != length {
-            return Err(format!("length: got {}, want {length}", answer.length));
-        }
+        let right = oracle(&mut want[lent.clone()]);
+        length.judge(number, right)?;
         self.same_memory(lent, &want)
     }
 
@@ -301,25 +358,22 @@ impl<P: Port> Checker<P> {
     pub fn read_part(&mut self, bytes: &[u8], length: usize) -> Outcome {
         self.count();
         let start = self.surround(bytes);
+        let mut header = Place::noise(&mut self.noise);
         let frame = &self.input[start..start + length];
-        let answer = self.port.read(frame);
+        let number = self.port.read(frame, header.lent());
         let part = self.port.payload(frame);
-        self.seen.number(Call::Read, answer.number);
-        Self::judge_read(frame, &answer, part)
+        self.seen.number(Call::Read, number);
+        Self::judge_read(frame, number, &header, part)
             .map_err(|what| format!("{what}\nframe ({length} bytes): {}", hex(frame)))
     }
 
-    fn judge_read(frame: &[u8], answer: &ReadAnswer, part: Part) -> Outcome {
-        let (number, header, payload) = match oracle::read(frame) {
-            Ok((header, payload)) => (0, header, payload),
-            Err(number) => (number, Header::default(), &[][..]),
-        };
-        if answer.number != number {
-            return Err(format!("number: got {}, want {number}", answer.number));
-        }
-        header_difference(&answer.header, &flatten(&header))?;
+    fn judge_read(frame: &[u8], number: u32, header: &Place<Flat>, part: Part) -> Outcome {
+        let right = oracle::read(frame);
+        let payload = right.as_ref().map_or(&[][..], |(_, payload)| payload);
+        header.judge(number, right.as_ref().map(|(header, _)| flatten(header)).map_err(|number| *number))?;
         let got = match part.offset.checked_add(part.length) {
-            _ if part.length == 0 => &[][..],
+            _ if part == Part::default() => &[][..],
+            _ if part.length == 0 => return Err(format!("{part:?}, want 0, 0 where it is empty")),
             Some(end) if end <= frame.len() => &frame[part.offset..end],
             _ => return Err(format!("payload {part:?} lies outside the frame")),
         };
@@ -332,9 +386,10 @@ impl<P: Port> Checker<P> {
     pub fn write(&mut self, flat: &Flat, room: usize) -> Outcome {
         self.count();
         let lent = self.lend(room);
-        let answer = self.port.write(flat, &mut self.memory[lent.clone()]);
-        self.seen.number(Call::Write, answer.number);
-        self.judge_memory(&lent, &answer, |out| {
+        let mut length = Place::noise(&mut self.noise);
+        let number = self.port.write(flat, &mut self.memory[lent.clone()], length.lent());
+        self.seen.number(Call::Write, number);
+        self.judge_memory(&lent, number, &length, |out| {
             unflatten(flat).and_then(|header| oracle::write(&header, out))
         })
         .map_err(|what| format!("{what}\nheader: {flat:?}\n{}", self.buffer_text(&lent)))
@@ -343,18 +398,19 @@ impl<P: Port> Checker<P> {
     /// Written, then read back: the header with its unused places zero, and no payload.
     pub fn write_read(&mut self, flat: &Flat, room: usize) -> Outcome {
         self.count();
-        let header = unflatten(flat).expect("a valid header");
+        let want = flatten(&unflatten(flat).expect("a valid header"));
         let mut buffer = vec![0; room];
         self.noise.fill(&mut buffer);
-        let written = self.port.write(flat, &mut buffer);
-        let frame = buffer.get(..written.length).unwrap_or_default();
-        let read = self.port.read(frame);
-        let outcome = if (written.number, read.number) != (0, 0) {
-            Err(format!("numbers: got {} then {}, want 0 twice", written.number, read.number))
+        let (mut length, mut header) = (Place::noise(&mut self.noise), Place::noise(&mut self.noise));
+        let written = self.port.write(flat, &mut buffer, length.lent());
+        let frame = buffer.get(..length.now.value).unwrap_or_default();
+        let read = self.port.read(frame, header.lent());
+        let outcome = if (written, read) != (0, 0) {
+            Err(format!("numbers: got {written} then {read}, want 0 twice"))
         } else if self.port.payload(frame).length != 0 {
             Err("payload of a written header is not empty".to_string())
         } else {
-            header_difference(&read.header, &flatten(&header))
+            header.holds(want)
         };
         outcome.map_err(|what| format!("{what}\nheader: {flat:?}\nwritten: {}", hex(frame)))
     }
@@ -362,15 +418,17 @@ impl<P: Port> Checker<P> {
     /// Read, then written again: the frame's bytes before its payload.
     pub fn read_write(&mut self, frame: &[u8]) -> Outcome {
         self.count();
-        let read = self.port.read(frame);
+        let (mut header, mut length) = (Place::noise(&mut self.noise), Place::noise(&mut self.noise));
+        let read = self.port.read(frame, header.lent());
         let before = frame.len() - self.port.payload(frame).length.min(frame.len());
         let mut buffer = vec![0; before];
         self.noise.fill(&mut buffer);
-        let written = self.port.write(&read.header, &mut buffer);
-        if (read.number, written.number, written.length) == (0, 0, before) && buffer == frame[..before] {
+        let written = self.port.write(&header.now.value, &mut buffer, length.lent());
+        let length = length.now.value;
+        if (read, written, length) == (0, 0, before) && buffer == frame[..before] {
             return Ok(());
         }
-        let numbers = format!("read {}, written {}, length {}", read.number, written.number, written.length);
+        let numbers = format!("read {read}, written {written}, length {length}");
         Err(format!("{numbers}, want 0, 0, {before}\nframe: {}\nwritten: {}", hex(frame), hex(&buffer)))
     }
 
@@ -378,26 +436,28 @@ impl<P: Port> Checker<P> {
     pub fn read_setup(&mut self, bytes: &[u8], length: usize) -> Outcome {
         self.count();
         let start = self.surround(bytes);
+        let (mut setup, mut present) = (Place::noise(&mut self.noise), Place::noise(&mut self.noise));
         let data = &self.input[start..start + length];
-        let got = self.port.read_setup(data);
-        self.seen.form(if got.present == 0 { Form::NoSetup } else { Form::Setup });
+        let number = self.port.read_setup(data, setup.lent(), present.lent());
+        self.seen.number(Call::SetupRead, number);
+        self.seen.form(if present.now.value == 0 { Form::NoSetup } else { Form::Setup });
         let read = setup::read(data);
-        let setup = flatten_setup(&read.unwrap_or_default());
-        let want = FlatSetupAnswer { setup, present: u32::from(read.is_some()), number: 0 };
-        if got != want {
-            let data = hex(data);
-            return Err(format!("got {got:?}\nwant {want:?}\nsetup data ({length} bytes): {data}"));
-        }
-        Ok(())
+        same_number(number, 0)
+            .and_then(|()| setup.holds(flatten_setup(&read.unwrap_or_default())))
+            .and_then(|()| present.holds(u32::from(read.is_some())))
+            .map_err(|what| format!("{what}\nsetup data ({length} bytes): {}", hex(data)))
     }
 
     pub fn write_setup(&mut self, setup: FlatSetup, room: usize) -> Outcome {
         self.count();
         let lent = self.lend(room);
-        let answer = self.port.write_setup(setup, &mut self.memory[lent.clone()]);
-        self.seen.number(Call::SetupWritten, answer.number);
-        self.judge_memory(&lent, &answer, |out| unflatten_setup(&setup).and_then(|s| setup::write(&s, out)))
-            .map_err(|what| format!("{what}\n{setup:?}\n{}", self.buffer_text(&lent)))
+        let mut length = Place::noise(&mut self.noise);
+        let number = self.port.write_setup(&setup, &mut self.memory[lent.clone()], length.lent());
+        self.seen.number(Call::SetupWritten, number);
+        self.judge_memory(&lent, number, &length, |out| {
+            unflatten_setup(&setup).and_then(|s| setup::write(&s, out))
+        })
+        .map_err(|what| format!("{what}\n{setup:?}\n{}", self.buffer_text(&lent)))
     }
 
     /// Setup data that is there, read and written again: its bytes, the ignored flags being 0.
@@ -407,14 +467,16 @@ impl<P: Port> Checker<P> {
         want[5] &= setup::R;
         let mut buffer = vec![0; setup::LENGTH];
         self.noise.fill(&mut buffer);
-        let read = self.port.read_setup(data);
-        let written = self.port.write_setup(read.setup, &mut buffer);
-        if (written.number, written.length) != (0, setup::LENGTH) || buffer != want {
-            let numbers = format!("written {}, length {}", written.number, written.length);
-            let (data, buffer, want) = (hex(data), hex(&buffer), hex(&want));
-            return Err(format!("{read:?}\n{numbers}\nsetup data: {data}\nbuffer: {buffer}\nwant: {want}"));
-        }
-        Ok(())
+        let mut length = Place::noise(&mut self.noise);
+        let (_, setup, _) = self.setup_of(data);
+        let written = self.port.write_setup(&setup, &mut buffer, length.lent());
+        length
+            .judge(written, Ok(setup::LENGTH))
+            .and_then(|()| match buffer == want {
+                true => Ok(()),
+                false => Err(format!("buffer: {}\nwant: {}", hex(&buffer), hex(&want))),
+            })
+            .map_err(|what| format!("{what}\n{setup:?}\nsetup data: {}", hex(data)))
     }
 
     /// Written, then read: the same values.
@@ -422,53 +484,57 @@ impl<P: Port> Checker<P> {
         self.count();
         let mut buffer = vec![0; room];
         self.noise.fill(&mut buffer);
-        let written = self.port.write_setup(setup, &mut buffer);
-        let got = self.port.read_setup(&buffer);
-        let want = FlatSetupAnswer { setup, present: 1, number: 0 };
-        if (written.number, written.length) != (0, setup::LENGTH) || got != want {
-            let numbers = format!("written {}, length {}", written.number, written.length);
-            return Err(format!("{numbers}, got {got:?}\nwant {want:?}\nbuffer: {}", hex(&buffer)));
-        }
-        Ok(())
+        let mut length = Place::noise(&mut self.noise);
+        let written = self.port.write_setup(&setup, &mut buffer, length.lent());
+        let (read, got, present) = self.setup_of(&buffer);
+        length
+            .judge(written, Ok(setup::LENGTH))
+            .and_then(|()| match (read, got, present) == (0, setup, 1) {
+                true => Ok(()),
+                false => Err(format!("read {read}, got {got:?}, present {present}\nwant {setup:?}")),
+            })
+            .map_err(|what| format!("{what}\nbuffer: {}", hex(&buffer)))
+    }
+
+    /// A reading's number and what it stored.
+    fn setup_of(&mut self, data: &[u8]) -> (u32, FlatSetup, u32) {
+        let (mut setup, mut present) = (self.noise.any(), self.noise.any());
+        (self.port.read_setup(data, &mut setup, &mut present), setup, present)
     }
 
     pub fn agree(&mut self, client: FlatSetup, server: FlatSetup) -> Outcome {
         self.count();
-        let got = self.port.agree(client, server);
-        self.seen.number(Call::Agreement, got.number);
+        let mut agreement = Place::noise(&mut self.noise);
+        let number = self.port.agree(&client, &server, agreement.lent());
+        self.seen.number(Call::Agreement, number);
         let both = unflatten_setup(&client).and_then(|client| Ok((client, unflatten_setup(&server)?)));
-        let want = flatten_agreement(both.and_then(|(client, server)| setup::agree(&client, &server)));
-        if got != want {
-            return Err(format!("got {got:?}\nwant {want:?}\nclient: {client:?}\nserver: {server:?}"));
-        }
-        Ok(())
+        let want = both.and_then(|(client, server)| setup::agree(&client, &server));
+        agreement
+            .judge(number, want.map(|agreement| flatten_agreement(&agreement)))
+            .map_err(|what| format!("{what}\nclient: {client:?}\nserver: {server:?}"))
     }
 
     /// Any bytes read as the two setup data: what is read is in rule, so an agreement follows.
     pub fn read_agree(&mut self, client: &[u8], server: &[u8]) -> Outcome {
         self.count();
-        let got = self.port.agree(self.port.read_setup(client).setup, self.port.read_setup(server).setup);
+        let mut agreement = Place::noise(&mut self.noise);
+        let [(_, one, _), (_, two, _)] = [client, server].map(|data| self.setup_of(data));
+        let number = self.port.agree(&one, &two, agreement.lent());
         let [one, two] = [client, server].map(|data| setup::read(data).unwrap_or_default());
-        let want = flatten_agreement(setup::agree(&one, &two));
-        if got != want || want.number != 0 {
-            let (client, server) = (hex(client), hex(server));
-            return Err(format!("got {got:?}\nwant {want:?}\nclient: {client}\nserver: {server}"));
-        }
-        Ok(())
+        let want = setup::agree(&one, &two).expect("two in rule");
+        agreement
+            .judge(number, Ok(flatten_agreement(&want)))
+            .map_err(|what| format!("{what}\nclient: {}\nserver: {}", hex(client), hex(server)))
     }
 
     pub fn grant(&mut self, asked: u32, limit: u32) -> Outcome {
         self.count();
-        let got = self.port.grant(asked, limit);
-        self.seen.number(Call::Grant, got.number);
-        let want = match reply::grant(asked, limit) {
-            Ok(credit) => FlatGrant { credit, number: 0 },
-            Err(number) => FlatGrant { credit: 0, number },
-        };
-        if got != want {
-            return Err(format!("got {got:?}\nwant {want:?}\nasked {asked}, limit {limit}"));
-        }
-        Ok(())
+        let mut credit = Place::noise(&mut self.noise);
+        let number = self.port.grant(asked, limit, credit.lent());
+        self.seen.number(Call::Grant, number);
+        credit
+            .judge(number, reply::grant(asked, limit))
+            .map_err(|what| format!("{what}\nasked {asked}, limit {limit}"))
     }
 
     /// Lends the first `length` bytes as the frame, with the others lying behind.
@@ -483,10 +549,12 @@ impl<P: Port> Checker<P> {
         self.count();
         let start = self.surround(bytes);
         let lent = self.lend(room);
+        let mut written = Place::noise(&mut self.noise);
         let frame = &self.input[start..start + length];
-        let answer = self.port.error_reply(frame, number, limit, &mut self.memory[lent.clone()]);
-        self.seen.reply(&answer);
-        self.judge_memory(&lent, &answer, |out| reply::error_reply(frame, number, limit, out)).map_err(
+        let out = &mut self.memory[lent.clone()];
+        let got = self.port.error_reply(frame, number, limit, out, written.lent());
+        self.seen.reply(got, written.now.value);
+        self.judge_memory(&lent, got, &written, |out| reply::error_reply(frame, number, limit, out)).map_err(
             |what| {
                 let (frame, buffer) = (hex(frame), self.buffer_text(&lent));
                 format!("{what}\nnumber {number}, limit {limit}, frame ({length} bytes): {frame}\n{buffer}")
@@ -498,13 +566,16 @@ impl<P: Port> Checker<P> {
     pub fn read_reply(&mut self, frame: &[u8], limit: u32, room: usize) -> Outcome {
         self.count();
         let lent = self.lend(room);
-        let number = self.port.read(frame).number;
+        let mut length = Place::noise(&mut self.noise);
+        let number = self.port.read(frame, &mut self.noise.any());
         self.seen.number(Call::Replied, number);
-        let answer = self.port.error_reply(frame, number, limit, &mut self.memory[lent.clone()]);
-        self.seen.reply(&answer);
-        self.judge_memory(&lent, &answer, |out| reply::error_reply(frame, number, limit, out))
+        let got = self.port.error_reply(frame, number, limit, &mut self.memory[lent.clone()], length.lent());
+        self.seen.reply(got, length.now.value);
+        self.judge_memory(&lent, got, &length, |out| reply::error_reply(frame, number, limit, out))
             .and_then(|()| {
-                self.judge_reply(frame, number, limit, &self.memory[lent.start..][..answer.length])
+                let length = if got == 0 { length.now.value } else { 0 };
+                let mut header = Place::noise(&mut self.noise);
+                self.judge_reply(frame, number, limit, &self.memory[lent.start..][..length], &mut header)
             })
             .map_err(|what| {
                 let (frame, buffer) = (hex(frame), self.buffer_text(&lent));
@@ -513,7 +584,14 @@ impl<P: Port> Checker<P> {
     }
 
     /// A reply is read as the ERROR header that it is meant to be, with no payload.
-    fn judge_reply(&self, frame: &[u8], number: u32, limit: u32, reply: &[u8]) -> Outcome {
+    fn judge_reply(
+        &self,
+        frame: &[u8],
+        number: u32,
+        limit: u32,
+        reply: &[u8],
+        header: &mut Place<Flat>,
+    ) -> Outcome {
         let right = oracle::read(frame).err().unwrap_or(0);
         if number != right {
             return Err(format!("number of the reading: got {number}, want {right}"));
@@ -526,11 +604,11 @@ impl<P: Port> Checker<P> {
         let fault = if number == 2 { Fault::Version { low: 1, high: 1 } } else { Fault::Chunk };
         let credit = reply::grant(word(2), limit).expect("a reply has a limit above 0");
         let want = Header { xid: word(0), credit, kind: Kind::Error(fault), ..Header::default() };
-        let read = self.port.read(reply);
-        if read.number != 0 || self.port.payload(reply).length != 0 {
-            return Err(format!("reply read back: number {}, want 0 and no payload", read.number));
+        let read = self.port.read(reply, header.lent());
+        if read != 0 || self.port.payload(reply).length != 0 {
+            return Err(format!("reply read back: number {read}, want 0 and no payload"));
         }
-        header_difference(&read.header, &flatten(&want)).map_err(|what| format!("reply read back: {what}"))
+        header.holds(flatten(&want)).map_err(|what| format!("reply read back: {what}"))
     }
 
     /// What the families should have drawn from the implementation but did not.

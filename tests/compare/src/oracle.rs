@@ -6,7 +6,7 @@ pub const MAX_WRITE_SEGMENTS: usize = 16;
 pub const MAX_REPLY_SEGMENTS: usize = 16;
 pub const MAX_HEADER: usize = 1024;
 
-// The two plain records lie as in C, so that the flat header can hold them as they are.
+// Lies as in C, so that the flat structs can hold it as it is.
 #[repr(C)]
 #[derive(Clone, Copy, Debug, Default, PartialEq, Eq)]
 pub struct Segment {
@@ -15,7 +15,6 @@ pub struct Segment {
     pub offset: u64,
 }
 
-#[repr(C)]
 #[derive(Clone, Copy, Debug, Default, PartialEq, Eq)]
 pub struct ReadSegment {
     pub position: u32,
@@ -43,7 +42,6 @@ pub struct Reply {
     pub segments: Vec<Segment>,
 }
 
-/// The default is what a refused reading hands back.
 #[derive(Clone, Debug, Default, PartialEq, Eq)]
 pub struct Header {
     pub xid: u32,

@@ -1,10 +1,10 @@
-//! The same checks straight between bytes and the flat structs, without allocation.
+//! The same checks straight between bytes and the flat structs, without allocation. What is lent
+//! is stored into once all checks have passed.
 
-use crate::abi::{Flat, FlatAgreement, FlatGrant, FlatSetup, FlatSetupAnswer, FlatState, FlatStateAnswer};
-use crate::abi::{Part, ReadAnswer, WriteAnswer};
+use crate::abi::{Flat, FlatAgreement, FlatRead, FlatSetup, FlatState, Part};
 use crate::abi::{ERROR_CHUNK, ERROR_VERSION, MSG, NOMSG};
 use crate::check::Port;
-use crate::oracle::{ReadSegment, Segment};
+use crate::oracle::Segment;
 
 fn word(rest: &mut &[u8]) -> Result<u32, u32> {
     let (bytes, behind) = rest.split_first_chunk::<4>().ok_or(5u32)?;
@@ -33,7 +33,7 @@ fn lists(rest: &mut &[u8], flat: &mut Flat) -> Result<(), u32> {
     while marker(rest)? {
         let place = flat.reads.get_mut(reads).ok_or(7u32)?;
         let position = word(rest)?;
-        *place = ReadSegment { position, target: segment(rest)? };
+        *place = FlatRead { position, reserved: 0, target: segment(rest)? };
         if position % 4 != 0 {
             return Err(9);
         }
@@ -105,24 +105,20 @@ fn decode<'a>(frame: &'a [u8], flat: &mut Flat) -> Result<&'a [u8], u32> {
     Ok(rest)
 }
 
-/// Into the caller's place, as the C boundary hands its answer back; a tuple is copied once more.
-#[inline(never)]
-pub fn plain_read_into(frame: &[u8], flat: &mut Flat) -> u32 {
-    *flat = Flat::ZERO;
-    let Err(number) = decode(frame, flat) else { return 0 };
-    *flat = Flat::ZERO;
-    number
+fn number(outcome: Result<(), u32>) -> u32 {
+    outcome.err().unwrap_or(0)
 }
 
-pub fn plain_read(frame: &[u8]) -> (u32, Flat) {
+#[inline(never)]
+pub fn plain_read(frame: &[u8], header: &mut Flat) -> u32 {
     let mut flat = Flat::ZERO;
-    (plain_read_into(frame, &mut flat), flat)
+    number(decode(frame, &mut flat).map(|_| *header = flat))
 }
 
 pub fn plain_payload(frame: &[u8]) -> Part {
     match decode(frame, &mut { Flat::ZERO }) {
-        Ok(rest) => Part { offset: frame.len() - rest.len(), length: rest.len() },
-        Err(_) => Part::default(),
+        Ok(rest) if !rest.is_empty() => Part { offset: frame.len() - rest.len(), length: rest.len() },
+        _ => Part::default(),
     }
 }
 
@@ -189,12 +185,13 @@ impl Out<'_> {
 }
 
 #[inline(never)]
-pub fn plain_write(flat: &Flat, out: &mut [u8]) -> (u32, usize) {
+pub fn plain_write(flat: &Flat, out: &mut [u8], length: &mut usize) -> u32 {
     let need = match measure(flat) {
         Ok(need) if need <= out.len() => need,
-        Ok(_) => return (16, 0),
-        Err(number) => return (number, 0),
+        Ok(_) => return 16,
+        Err(number) => return number,
     };
+    *length = need;
     let mut out = Out { free: &mut out[..need] };
     out.word(flat.xid);
     out.word(1);
@@ -206,7 +203,7 @@ pub fn plain_write(flat: &Flat, out: &mut [u8]) -> (u32, usize) {
             out.word(flat.low);
             out.word(flat.high);
         }
-        return (0, need);
+        return 0;
     }
     out.word(flat.kind);
     for entry in &flat.reads[..flat.read_count as usize] {
@@ -229,24 +226,24 @@ pub fn plain_write(flat: &Flat, out: &mut [u8]) -> (u32, usize) {
         out.word(flat.reply_count);
         flat.reply[..flat.reply_count as usize].iter().for_each(|segment| out.segment(segment));
     }
-    (0, need)
+    0
 }
 
 /// Identifier, version byte 1, and zeros for the flags and the size bytes.
 const SETUP: u64 = 0xf6ab_0e18_0100_0000;
 
 #[inline(never)]
-pub fn plain_read_setup(data: &[u8]) -> FlatSetupAnswer {
-    let mut setup = FlatSetup { remote_invalidation: 0, send: 1024, receive: 1024 };
+pub fn plain_read_setup(data: &[u8], setup: &mut FlatSetup, present: &mut u32) -> u32 {
+    *setup = FlatSetup { remote_invalidation: 0, send: 1024, receive: 1024 };
     let all = data.first_chunk::<8>().map_or(0, |bytes| u64::from_be_bytes(*bytes));
-    if all >> 24 != SETUP >> 24 {
-        return FlatSetupAnswer { setup, present: 0, number: 0 };
+    *present = u32::from(all >> 24 == SETUP >> 24);
+    if *present == 1 {
+        let all = all as u32;
+        setup.remote_invalidation = all >> 16 & 1;
+        setup.send += (all >> 8 & 0xff) << 10;
+        setup.receive += (all & 0xff) << 10;
     }
-    let all = all as u32;
-    setup.remote_invalidation = all >> 16 & 1;
-    setup.send += (all >> 8 & 0xff) << 10;
-    setup.receive += (all & 0xff) << 10;
-    FlatSetupAnswer { setup, present: 1, number: 0 }
+    0
 }
 
 /// The size byte of a size in rule, above 255 for any other:
@@ -260,37 +257,37 @@ fn out_of_rule(setup: &FlatSetup) -> bool {
 }
 
 #[inline(never)]
-pub fn plain_write_setup(setup: FlatSetup, out: &mut [u8]) -> WriteAnswer {
-    if out_of_rule(&setup) {
-        return WriteAnswer { number: 20, length: 0 };
+pub fn plain_write_setup(setup: &FlatSetup, out: &mut [u8], length: &mut usize) -> u32 {
+    if out_of_rule(setup) {
+        return 20;
     }
-    let Some(place) = out.first_chunk_mut::<8>() else {
-        return WriteAnswer { number: 16, length: 0 };
-    };
+    let Some(place) = out.first_chunk_mut::<8>() else { return 16 };
     let low = setup.remote_invalidation << 16 | size_byte(setup.send) << 8 | size_byte(setup.receive);
     *place = (SETUP | u64::from(low)).to_be_bytes();
-    WriteAnswer { number: 0, length: 8 }
+    *length = 8;
+    0
 }
 
 #[inline(never)]
-pub fn plain_agree(client: FlatSetup, server: FlatSetup) -> FlatAgreement {
-    if out_of_rule(&client) || out_of_rule(&server) {
-        return FlatAgreement { number: 20, ..FlatAgreement::default() };
+pub fn plain_agree(client: &FlatSetup, server: &FlatSetup, agreement: &mut FlatAgreement) -> u32 {
+    if out_of_rule(client) || out_of_rule(server) {
+        return 20;
     }
-    FlatAgreement {
+    *agreement = FlatAgreement {
         client_to_server: client.send.min(server.receive),
         server_to_client: server.send.min(client.receive),
         remote_invalidation: client.remote_invalidation & server.remote_invalidation,
-        number: 0,
-    }
+    };
+    0
 }
 
 #[inline(never)]
-pub fn plain_grant(asked: u32, limit: u32) -> FlatGrant {
+pub fn plain_grant(asked: u32, limit: u32, credit: &mut u32) -> u32 {
     if limit == 0 {
-        return FlatGrant { credit: 0, number: 20 };
+        return 20;
     }
-    FlatGrant { credit: asked.clamp(1, limit), number: 0 }
+    *credit = asked.clamp(1, limit);
+    0
 }
 
 #[derive(Clone, Copy, PartialEq)]
@@ -307,53 +304,55 @@ const REPLIES: [ReplyKind; 22] = {
 };
 
 /// The fixed words and then the error's own; their lengths are known to the compiler.
-fn put_reply<const N: usize>(fixed: u128, error: [u8; N], out: &mut [u8]) -> WriteAnswer {
+fn put_reply<const N: usize>(fixed: u128, error: [u8; N], out: &mut [u8], length: &mut usize) -> u32 {
     if let Some((start, behind)) = out.split_first_chunk_mut::<16>() {
         if let Some(end) = behind.first_chunk_mut::<N>() {
             (*start, *end) = (fixed.to_be_bytes(), error);
-            return WriteAnswer { number: 0, length: 16 + N };
+            *length = 16 + N;
+            return 0;
         }
     }
-    WriteAnswer { number: 16, length: 0 }
+    16
 }
 
 #[inline(never)]
-pub fn plain_error_reply(frame: &[u8], number: u32, limit: u32, out: &mut [u8]) -> WriteAnswer {
-    let kind = match REPLIES.get(number as usize) {
+pub fn plain_error_reply(frame: &[u8], number: u32, limit: u32, out: &mut [u8], length: &mut usize) -> u32 {
+    let mut kind = match REPLIES.get(number as usize) {
         Some(kind) if limit > 0 => *kind,
-        _ => return WriteAnswer { number: 20, length: 0 },
+        _ => return 20,
     };
-    let none = WriteAnswer { number: 0, length: 0 };
-    let Some(fixed) = frame.first_chunk::<16>() else { return none };
-    let fixed = u128::from_be_bytes(*fixed);
+    let fixed = frame.first_chunk::<16>().map_or(4, |bytes| u128::from_be_bytes(*bytes));
     let (xid, asked, procedure) = (fixed >> 96, (fixed >> 32) as u32, fixed as u32);
     if procedure == 4 {
-        return none;
+        kind = ReplyKind::None;
     }
     let fixed = xid << 96 | 1 << 64 | u128::from(asked.clamp(1, limit)) << 32 | 4;
     match kind {
-        ReplyKind::None => none,
-        ReplyKind::Version => put_reply(fixed, [0, 0, 0, 1, 0, 0, 0, 1, 0, 0, 0, 1], out),
-        ReplyKind::Chunk => put_reply(fixed, [0, 0, 0, 2], out),
+        ReplyKind::None => {
+            *length = 0;
+            0
+        }
+        ReplyKind::Version => put_reply(fixed, [0, 0, 0, 1, 0, 0, 0, 1, 0, 0, 0, 1], out, length),
+        ReplyKind::Chunk => put_reply(fixed, [0, 0, 0, 2], out, length),
     }
 }
 
 const MAX_MESSAGE: usize = 1_048_576;
 
-fn total(segments: &[ReadSegment]) -> usize {
+fn total(segments: &[FlatRead]) -> usize {
     segments.iter().map(|entry| entry.target.length as usize).sum()
 }
 
 /// What 12 to 15 have passed: the position-zero chunk is taken off the list.
 struct Plan<'a> {
-    others: &'a [ReadSegment],
+    others: &'a [FlatRead],
     base: usize,
     length: usize,
     pulled: usize,
 }
 
 /// Sums of 16 lengths fit by far; an inline base is the length of a slice or checked before.
-fn plan(kind: u32, reads: &[ReadSegment], inline: usize) -> Result<Plan<'_>, u32> {
+fn plan(kind: u32, reads: &[FlatRead], inline: usize) -> Result<Plan<'_>, u32> {
     let zeros = reads.iter().take_while(|entry| entry.position == 0).count();
     if kind > NOMSG || (kind == NOMSG) != (zeros > 0) {
         return Err(12);
@@ -427,12 +426,8 @@ fn begin(frame: &[u8], out: &mut [u8], state: &mut FlatState) -> Result<(), u32>
 }
 
 #[inline(never)]
-pub fn plain_start(frame: &[u8], out: &mut [u8]) -> FlatStateAnswer {
-    let mut answer = FlatStateAnswer { state: FlatState::ZERO, number: 0 };
-    if let Err(number) = begin(frame, out, &mut answer.state) {
-        answer.number = number;
-    }
-    answer
+pub fn plain_start(frame: &[u8], out: &mut [u8], state: &mut FlatState) -> u32 {
+    number(begin(frame, out, state))
 }
 
 /// The plan of a state that can arise, else 17.
@@ -490,7 +485,7 @@ fn take(state: &mut FlatState, piece: &[u8], out: &mut [u8]) -> Result<(), u32> 
 
 #[inline(never)]
 pub fn plain_take_piece(state: &mut FlatState, piece: &[u8], out: &mut [u8]) -> u32 {
-    take(state, piece, out).err().unwrap_or(0)
+    number(take(state, piece, out))
 }
 
 fn finished(state: &FlatState, room: usize) -> Result<usize, u32> {
@@ -502,65 +497,65 @@ fn finished(state: &FlatState, room: usize) -> Result<usize, u32> {
 }
 
 #[inline(never)]
-pub fn plain_ask(state: &FlatState, out: &[u8]) -> u32 {
-    finished(state, out.len()).err().unwrap_or(0)
-}
-
-#[inline(never)]
-pub fn plain_message(state: &FlatState, out: &[u8]) -> Part {
-    Part { offset: 0, length: finished(state, out.len()).unwrap_or(0) }
+pub fn plain_message(state: &FlatState, out: &[u8], length: &mut usize) -> u32 {
+    number(finished(state, out.len()).map(|whole| *length = whole))
 }
 
 pub struct Plain;
 
 impl Port for Plain {
-    fn read(&self, frame: &[u8]) -> ReadAnswer {
-        let (number, header) = plain_read(frame);
-        ReadAnswer { header, number }
+    #[inline(always)]
+    fn read(&self, frame: &[u8], header: &mut Flat) -> u32 {
+        plain_read(frame, header)
     }
 
+    #[inline(always)]
     fn payload(&self, frame: &[u8]) -> Part {
         plain_payload(frame)
     }
 
-    fn write(&self, header: &Flat, out: &mut [u8]) -> WriteAnswer {
-        let (number, length) = plain_write(header, out);
-        WriteAnswer { number, length }
+    #[inline(always)]
+    fn write(&self, header: &Flat, out: &mut [u8], length: &mut usize) -> u32 {
+        plain_write(header, out, length)
     }
 
-    fn read_setup(&self, data: &[u8]) -> FlatSetupAnswer {
-        plain_read_setup(data)
+    #[inline(always)]
+    fn read_setup(&self, data: &[u8], setup: &mut FlatSetup, present: &mut u32) -> u32 {
+        plain_read_setup(data, setup, present)
     }
 
-    fn write_setup(&self, setup: FlatSetup, out: &mut [u8]) -> WriteAnswer {
-        plain_write_setup(setup, out)
+    #[inline(always)]
+    fn write_setup(&self, setup: &FlatSetup, out: &mut [u8], length: &mut usize) -> u32 {
+        plain_write_setup(setup, out, length)
     }
 
-    fn agree(&self, client: FlatSetup, server: FlatSetup) -> FlatAgreement {
-        plain_agree(client, server)
+    #[inline(always)]
+    fn agree(&self, client: &FlatSetup, server: &FlatSetup, agreement: &mut FlatAgreement) -> u32 {
+        plain_agree(client, server, agreement)
     }
 
-    fn grant(&self, asked: u32, limit: u32) -> FlatGrant {
-        plain_grant(asked, limit)
+    #[inline(always)]
+    fn grant(&self, asked: u32, limit: u32, credit: &mut u32) -> u32 {
+        plain_grant(asked, limit, credit)
     }
 
-    fn error_reply(&self, frame: &[u8], number: u32, limit: u32, out: &mut [u8]) -> WriteAnswer {
-        plain_error_reply(frame, number, limit, out)
+    #[inline(always)]
+    fn error_reply(&self, frame: &[u8], number: u32, limit: u32, out: &mut [u8], length: &mut usize) -> u32 {
+        plain_error_reply(frame, number, limit, out, length)
     }
 
-    fn start(&self, frame: &[u8], out: &mut [u8]) -> FlatStateAnswer {
-        plain_start(frame, out)
+    #[inline(always)]
+    fn start(&self, frame: &[u8], out: &mut [u8], state: &mut FlatState) -> u32 {
+        plain_start(frame, out, state)
     }
 
+    #[inline(always)]
     fn take_piece(&self, state: &mut FlatState, piece: &[u8], out: &mut [u8]) -> u32 {
         plain_take_piece(state, piece, out)
     }
 
-    fn ask(&self, state: &FlatState, out: &mut [u8]) -> u32 {
-        plain_ask(state, out)
-    }
-
-    fn message(&self, state: &FlatState, out: &mut [u8]) -> Part {
-        plain_message(state, out)
+    #[inline(always)]
+    fn message(&self, state: &FlatState, out: &mut [u8], length: &mut usize) -> u32 {
+        plain_message(state, out, length)
     }
 }

@@ -22,8 +22,7 @@ impl Default for Setup {
     }
 }
 
-/// The default is what a refused call hands back.
-#[derive(Clone, Copy, Debug, Default, PartialEq, Eq)]
+#[derive(Clone, Copy, Debug, PartialEq, Eq)]
 pub struct Agreement {
     pub client_to_server: u32,
     pub server_to_client: u32,

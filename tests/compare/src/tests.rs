@@ -1,7 +1,6 @@
 mod assembly;
 
-use crate::abi::{Flat, FlatAgreement, FlatGrant, FlatSetup, FlatSetupAnswer, FlatState, FlatStateAnswer};
-use crate::abi::{Part, ReadAnswer, WriteAnswer, ERROR_CHUNK};
+use crate::abi::{Flat, FlatAgreement, FlatSetup, FlatState, Part, ERROR_CHUNK};
 use crate::check::{Checker, Outcome, Port, Rng};
 use crate::oracle::{read, write, Fault, Header, Kind};
 use crate::plain::Plain;
@@ -130,30 +129,58 @@ fn vectors_agree() {
 #[test]
 fn plain_agrees_with_the_oracle() {
     let mut check = Checker::new(Plain, 3);
-    assert_eq!(check.unseen().len(), 12 + 7 + 3 + 2 + 2 + 3 + 12 + 17 + 3 + 3 + 13);
+    assert_eq!(check.unseen().len(), 12 + 7 + 1 + 3 + 2 + 2 + 3 + 12 + 17 + 3 + 3 + 13);
     cases::run(&mut check, 3, 20_000).unwrap();
     assert_eq!(check.unseen(), Vec::<String>::new());
 }
 
+/// The wrong ports of this file; those of the reassembly have numbers far above.
+const PORTS: u32 = 118;
+
 /// Plain with one thing wrong.
 struct Wrong(u32);
 
+/// Stores a word behind what was lent, as an answer struct once had it there; the guard is there.
+fn store_behind<T>(lent: &mut T, word: u32) {
+    unsafe { std::ptr::from_mut(lent).add(1).cast::<u32>().write_unaligned(word) }
+}
+
 impl Port for Wrong {
-    fn read(&self, frame: &[u8]) -> ReadAnswer {
-        let mut answer = Plain.read(frame);
-        match (self.0, answer.number) {
-            (0, 8) => answer.number = 9,
-            (1, 7) => answer.number = 5,
-            (2, 11) => answer.number = 0,
-            (3, 10) => answer.header.xid = 1,
-            (4, 0) if answer.header.reply_count == 0 => answer.header.reply_present = 0,
-            (5, 0) => answer.header.reads[15].target.offset &= !(1 << 63),
+    fn read(&self, frame: &[u8], header: &mut Flat) -> u32 {
+        let before = *header;
+        let number = Plain.read(frame, header);
+        let used = header.read_count as usize;
+        match (self.0, number) {
+            (0, 8) => return 9,
+            (1, 7) => return 5,
+            (2, 11) => return 0,
+            (3, 10) => header.xid = 1,
+            (4, 0) if header.reply_count == 0 => header.reply_present = 0,
+            (5, 0) => header.reads[15].target.offset &= !(1 << 63),
             // These and one of the payload: before an error reply, and in one that is read back.
-            (78, 0) if answer.header.kind == ERROR_CHUNK => answer.header.credit = 0,
-            (79, 9) => answer.number = 8,
+            (78, 0) if header.kind == ERROR_CHUNK => header.credit = 0,
+            (79, 9) => return 8,
+            // A refusal with all zeros; with what was read until then; with zeros for one number alone.
+            (81, 1..) => *header = Flat::ZERO,
+            (82, 5..) => header.credit = u32::from_be_bytes(frame[8..12].try_into().expect("4 bytes")),
+            (83, 11) => *header = Flat::ZERO,
+            // A reserved word left as it was: the header's, a used entry's, an unused one's.
+            (84, 0) => header.reserved = before.reserved,
+            (85, 0) if used > 0 => header.reads[used - 1].reserved = before.reads[used - 1].reserved,
+            (86, 0) if used < 16 => header.reads[15].reserved = before.reads[15].reserved,
+            // A reserved word that is 1; one that holds a part of the segment.
+            (87, 0) => header.reserved = 1,
+            (88, 0) if used > 0 => header.reads[0].reserved = header.reads[0].target.handle,
+            // Unused places left as they were: of each list, the counts, low and high.
+            (89, 0) => header.reads[used..].copy_from_slice(&before.reads[used..]),
+            (90, 0) if header.write_chunks == 0 => header.writes = before.writes,
+            (91, 0) if header.reply_present == 0 => header.reply = before.reply,
+            (92, 0) if header.write_chunks < 4 => header.write_counts[3] = before.write_counts[3],
+            (93, 0) if header.kind < 2 => header.high = before.high,
+            (94, _) => store_behind(header, number),
             _ => {}
         }
-        answer
+        number
     }
 
     fn payload(&self, frame: &[u8]) -> Part {
@@ -162,69 +189,96 @@ impl Port for Wrong {
             6 => part.length &= !3,
             7 if part.length == 0 && frame.len() > 28 => part.length = 1,
             80 if frame.len() == 20 => part.length = 1,
+            // An empty part that lies behind the header.
+            117 if part.length == 0 && frame.len() >= 28 => part.offset = 28,
             _ => {}
         }
         part
     }
 
-    fn write(&self, header: &Flat, out: &mut [u8]) -> WriteAnswer {
-        let mut answer = Plain.write(header, out);
-        match (self.0, answer.number) {
-            (8, 0) if answer.length < out.len() => out[answer.length] = 0,
-            (9, 16) if !out.is_empty() => out[0] = 0,
-            (10, 16) => answer.length = out.len(),
-            (11, 12) => answer.number = 7,
-            (12, 20) => answer.number = 7,
+    fn write(&self, header: &Flat, out: &mut [u8], length: &mut usize) -> u32 {
+        let mut given = *header;
+        let used = header.reads.get(..header.read_count as usize).unwrap_or_default();
+        match self.0 {
+            // A reserved word that is not ignored: the header's, a used entry's, an unused one's.
+            95 if header.reserved != 0 => return 20,
+            96 if used.iter().any(|entry| entry.reserved != 0) => return 9,
+            97 if header.reads[used.len()..].iter().any(|entry| entry.reserved != 0) => return 20,
+            // Position and reserved word taken as one, in the order of positions and for the position.
+            98 if !used
+                .is_sorted_by_key(|entry| u64::from(entry.reserved) << 32 | u64::from(entry.position)) =>
+            {
+                return 8;
+            }
+            99 if !used.is_empty() => given.reads[0].position |= given.reads[0].reserved & 0x100,
             _ => {}
         }
-        answer
+        let number = Plain.write(&given, out, length);
+        match (self.0, number) {
+            (8, 0) if *length < out.len() => out[*length] = 0,
+            (9, 16) if !out.is_empty() => out[0] = 0,
+            (10, 16) => *length = out.len(),
+            (11, 12) => return 7,
+            (12, 20) => return 7,
+            // A refusal with length 0; with the length that it would need.
+            (100, 1..) => *length = 0,
+            (101, 16) => drop(Plain.write(header, &mut [0; 1024], length)),
+            (102, 0) => store_behind(length, 0),
+            _ => {}
+        }
+        number
     }
 
-    fn read_setup(&self, data: &[u8]) -> FlatSetupAnswer {
-        let mut answer = Plain.read_setup(data);
-        let found = answer.present == 1;
-        match self.0 {
+    fn read_setup(&self, data: &[u8], setup: &mut FlatSetup, present: &mut u32) -> u32 {
+        let (before, held) = (*setup, *present);
+        let lent = match self.0 {
             // No length test. The guard behind what is lent is long enough.
-            13 if data.len() < 8 => {
-                return Plain.read_setup(unsafe { std::slice::from_raw_parts(data.as_ptr(), 8) });
-            }
+            13 if data.len() < 8 => unsafe { std::slice::from_raw_parts(data.as_ptr(), 8) }.to_vec(),
             // Missing bytes taken as 0.
-            14 if data.len() < 8 => return Plain.read_setup(&[data, &[0; 8][data.len()..]].concat()),
-            // Any flag taken as R.
-            15 if found => answer.setup.remote_invalidation = u32::from(data[5] != 0),
-            // R in the highest bit.
-            16 if found => answer.setup.remote_invalidation = u32::from(data[5] >> 7),
-            // The whole flags byte handed back.
-            17 if found => answer.setup.remote_invalidation = u32::from(data[5]),
-            // Size byte n taken as n × 1,024.
-            18 if found => {
-                (answer.setup.send, answer.setup.receive) =
-                    (answer.setup.send - 1024, answer.setup.receive - 1024)
-            }
-            // The two sizes exchanged.
-            19 => (answer.setup.send, answer.setup.receive) = (answer.setup.receive, answer.setup.send),
+            14 if data.len() < 8 => [data, &[0; 8][data.len()..]].concat(),
             // Any version taken.
-            20 if data.len() >= 8 => return Plain.read_setup(&[&data[..4], &[1], &data[5..]].concat()),
+            20 if data.len() >= 8 => [&data[..4], &[1], &data[5..]].concat(),
             // Three bytes of the identifier compared.
-            21 if data.len() >= 8 => return Plain.read_setup(&[&data[..3], &[0x18], &data[4..]].concat()),
+            21 if data.len() >= 8 => [&data[..3], &[0x18], &data[4..]].concat(),
             // Bytes behind the eighth not allowed.
-            22 if data.len() > 8 => return Plain.read_setup(&[]),
-            // Sizes 0 if there is no setup data.
-            23 if !found => (answer.setup.send, answer.setup.receive) = (0, 0),
-            // A refusal if there is none.
-            24 if !found => answer.number = 20,
+            22 if data.len() > 8 => vec![],
             // The identifier searched for, as RFC 8797 section 5.2 has it.
             25 => {
                 let at = data.windows(4).position(|four| four == setup::IDENTIFIER);
-                return Plain.read_setup(&data[at.unwrap_or(0)..]);
+                data[at.unwrap_or(0)..].to_vec()
             }
+            _ => data.to_vec(),
+        };
+        let number = Plain.read_setup(&lent, setup, present);
+        let found = *present == 1;
+        match self.0 {
+            // Any flag taken as R.
+            15 if found => setup.remote_invalidation = u32::from(data[5] != 0),
+            // R in the highest bit.
+            16 if found => setup.remote_invalidation = u32::from(data[5] >> 7),
+            // The whole flags byte handed back.
+            17 if found => setup.remote_invalidation = u32::from(data[5]),
+            // Size byte n taken as n × 1,024.
+            18 if found => (setup.send, setup.receive) = (setup.send - 1024, setup.receive - 1024),
+            // The two sizes exchanged.
+            19 => (setup.send, setup.receive) = (setup.receive, setup.send),
+            // Sizes 0 if there is no setup data.
+            23 if !found => (setup.send, setup.receive) = (0, 0),
+            // A refusal if there is none.
+            24 if !found => return 20,
+            // Nothing stored if there is none: no values; no flag; no word of presence.
+            103 if !found => *setup = before,
+            104 if !found => setup.remote_invalidation = before.remote_invalidation,
+            105 if !found => *present = held,
+            // Presence stored as a word of eight bytes.
+            106 => store_behind(present, 0),
             _ => {}
         }
-        answer
+        number
     }
 
-    fn write_setup(&self, mut setup: FlatSetup, out: &mut [u8]) -> WriteAnswer {
-        let given = setup;
+    fn write_setup(&self, given: &FlatSetup, out: &mut [u8], length: &mut usize) -> u32 {
+        let mut setup = *given;
         match self.0 {
             // No multiple of 1,024, rounded down.
             26 => (setup.send, setup.receive) = (setup.send & !1023, setup.receive & !1023),
@@ -237,13 +291,13 @@ impl Port for Wrong {
             // Only the send size checked.
             30 => setup.receive = setup.receive.clamp(1024, 262_144) & !1023,
             // 16 before 20.
-            31 if out.len() < 8 => return WriteAnswer { number: 16, length: 0 },
+            31 if out.len() < 8 => return 16,
             // Any flag taken and written as it is.
             32 => setup.remote_invalidation = 0,
             _ => {}
         }
-        let mut answer = Plain.write_setup(setup, out);
-        match (self.0, answer.number) {
+        let number = Plain.write_setup(&setup, out, length);
+        match (self.0, number) {
             (32, 0) => out[5] = given.remote_invalidation as u8,
             // Bytes behind the eighth cleared.
             (33, 0) => out[8..].fill(0),
@@ -252,19 +306,26 @@ impl Port for Wrong {
             // What fits written into a short buffer.
             (35, 16) => out.copy_from_slice(&C10[..out.len()]),
             // The buffer's length for that of the setup data.
-            (36, 0) => answer.length = out.len(),
+            (36, 0) => *length = out.len(),
+            // A refusal with length 0; with the length that it would need.
+            (107, 20) => *length = 0,
+            (108, 16) => *length = 8,
             _ => {}
         }
-        answer
+        number
     }
 
-    fn agree(&self, mut client: FlatSetup, server: FlatSetup) -> FlatAgreement {
-        // The client's flag not checked.
-        if self.0 == 37 {
-            client.remote_invalidation = client.remote_invalidation.min(1);
+    fn agree(&self, client: &FlatSetup, server: &FlatSetup, both: &mut FlatAgreement) -> u32 {
+        let (mut client, mut server) = (*client, *server);
+        match self.0 {
+            // The client's flag not checked.
+            37 => client.remote_invalidation = client.remote_invalidation.min(1),
+            // The server's send size not checked.
+            45 => server.send = server.send.clamp(1024, 262_144) & !1023,
+            _ => {}
         }
-        let mut both = Plain.agree(client, server);
-        let good = both.number == 0;
+        let number = Plain.agree(&client, &server, both);
+        let good = number == 0;
         match self.0 {
             // The larger of two sizes.
             38 if good => both.client_to_server = client.send.max(server.receive),
@@ -272,7 +333,7 @@ impl Port for Wrong {
             39 if good => both.client_to_server = client.send.min(server.send),
             40 if good => both.server_to_client = client.receive.min(server.receive),
             // The two directions exchanged.
-            41 => {
+            41 if good => {
                 (both.client_to_server, both.server_to_client) =
                     (both.server_to_client, both.client_to_server)
             }
@@ -280,37 +341,48 @@ impl Port for Wrong {
             42 if good => both.remote_invalidation = client.remote_invalidation,
             43 if good => both.remote_invalidation = server.remote_invalidation,
             44 if good => both.remote_invalidation = client.remote_invalidation | server.remote_invalidation,
-            // The server's send size not checked.
-            45 if !good => {
-                let send = server.send.clamp(1024, 262_144) & !1023;
-                return Plain.agree(client, FlatSetup { send, ..server });
-            }
-            // Values beside a refusal.
+            // Values beside a refusal; zeros beside it; one of them.
             46 if !good => both.client_to_server = client.send.min(server.receive),
+            109 if !good => *both = FlatAgreement::default(),
+            110 if !good => both.remote_invalidation = 0,
+            111 => store_behind(both, number),
             _ => {}
         }
-        both
+        number
     }
 
-    fn grant(&self, asked: u32, limit: u32) -> FlatGrant {
+    fn grant(&self, asked: u32, limit: u32, credit: &mut u32) -> u32 {
+        let number = Plain.grant(asked, limit, credit);
         match self.0 {
             // 0 for 0.
-            47 if limit > 0 => FlatGrant { credit: asked.min(limit), number: 0 },
+            47 if limit > 0 => *credit = asked.min(limit),
             // All that is asked.
-            48 if limit > 0 => FlatGrant { credit: asked.max(1), number: 0 },
+            48 if limit > 0 => *credit = asked.max(1),
             // One above the limit.
-            49 if limit > 0 => FlatGrant { credit: asked.clamp(1, limit.saturating_add(1)), number: 0 },
+            49 if limit > 0 => *credit = asked.clamp(1, limit.saturating_add(1)),
             // Limit 0 taken.
-            50 if limit == 0 => FlatGrant { credit: 1, number: 0 },
-            // A grant beside the refusal.
-            51 if limit == 0 => FlatGrant { credit: 1, number: 20 },
-            _ => Plain.grant(asked, limit),
+            50 if limit == 0 => {
+                *credit = 1;
+                return 0;
+            }
+            // A grant beside the refusal; 0 beside it.
+            51 if limit == 0 => *credit = 1,
+            112 if limit == 0 => *credit = 0,
+            113 => store_behind(credit, number),
+            _ => {}
         }
+        number
     }
 
-    fn error_reply(&self, frame: &[u8], mut number: u32, mut limit: u32, out: &mut [u8]) -> WriteAnswer {
-        let (none, short) = (WriteAnswer { number: 0, length: 0 }, WriteAnswer { number: 16, length: 0 });
-        let (fine, whole) = (limit > 0 && number <= 21, frame.len() >= 16);
+    fn error_reply(
+        &self,
+        frame: &[u8],
+        mut number: u32,
+        mut limit: u32,
+        out: &mut [u8],
+        length: &mut usize,
+    ) -> u32 {
+        let (before, fine, whole) = (*length, limit > 0 && number <= 21, frame.len() >= 16);
         let error = whole && frame[12..16] == [0, 0, 0, 4];
         let mut lent = frame.to_vec();
         match self.0 {
@@ -322,7 +394,10 @@ impl Port for Wrong {
             // A frame under 16 bytes filled up with zeros.
             55 if !whole => lent.resize(16, 0),
             // No reply before 20.
-            56 if !whole || error => return none,
+            56 if !whole || error => {
+                *length = 0;
+                return 0;
+            }
             // A reply for number 10; for 4; for 16.
             57 if number == 10 => number = 11,
             58 if number == 4 => number = 3,
@@ -338,13 +413,14 @@ impl Port for Wrong {
             // Limit 0 taken.
             65 => limit = limit.max(1),
             // 16 before no reply.
-            66 if fine && out.len() < 20 => return short,
+            66 if fine && out.len() < 20 => return 16,
             // Room for the longer reply asked of both.
-            67 if fine && whole && !error && number == 5 && out.len() < 28 => return short,
+            67 if fine && whole && !error && number == 5 && out.len() < 28 => return 16,
             _ => {}
         }
-        let mut answer = Plain.error_reply(&lent, number, limit, out);
-        match (self.0, answer.number, answer.length) {
+        let answer = Plain.error_reply(&lent, number, limit, out, length);
+        let written = if answer == 0 { *length } else { 0 };
+        match (self.0, answer, written) {
             // The words asked in place of the grant; the limit in place of it.
             (68, 0, 20 | 28) => out[8..12].copy_from_slice(&frame[8..12]),
             (69, 0, 20 | 28) => out[8..12].copy_from_slice(&limit.to_be_bytes()),
@@ -357,48 +433,58 @@ impl Port for Wrong {
             // A chunk reply of 28 bytes.
             (73, 0, 20) if out.len() >= 28 => {
                 out[20..28].fill(0);
-                answer.length = 28;
+                *length = 28;
             }
             // No reply clears the buffer; a reply what lies behind it.
             (74, 0, 0) => out.fill(0),
-            (75, 0, 20 | 28) => out[answer.length..].fill(0),
+            (75, 0, 20 | 28) => out[written..].fill(0),
             // A refusal with the xid written.
             (76, 16, _) if out.len() >= 4 => out[..4].copy_from_slice(&frame[..4]),
             // A byte behind the lent buffer; the guard is there.
             (77, 0, 20) => unsafe { *out.as_mut_ptr().add(out.len()) ^= 1 },
+            // A refusal with length 0; with the length that it would need.
+            (114, 20, _) => *length = 0,
+            (115, 16, _) => *length = if number == 2 { 28 } else { 20 },
+            // No reply leaves the length as it was.
+            (116, 0, 0) => *length = before,
             _ => {}
         }
         answer
     }
 
-    fn start(&self, frame: &[u8], out: &mut [u8]) -> FlatStateAnswer {
-        self.faulty_start(frame, out)
+    fn start(&self, frame: &[u8], out: &mut [u8], state: &mut FlatState) -> u32 {
+        self.faulty_start(frame, out, state)
     }
 
     fn take_piece(&self, state: &mut FlatState, piece: &[u8], out: &mut [u8]) -> u32 {
         self.faulty_take_piece(state, piece, out)
     }
 
-    fn ask(&self, state: &FlatState, out: &mut [u8]) -> u32 {
-        self.faulty_ask(state, out)
-    }
-
-    fn message(&self, state: &FlatState, out: &mut [u8]) -> Part {
-        self.faulty_message(state, out)
+    fn message(&self, state: &FlatState, out: &mut [u8], length: &mut usize) -> u32 {
+        self.faulty_message(state, out, length)
     }
 }
 
 #[test]
 fn wrong_ports_are_found() {
-    for wrong in 0..=80 {
+    for wrong in 0..PORTS {
         let (mut check, mut rng) = (Checker::new(Wrong(wrong), 5), Rng(5));
         let outcome = match wrong {
-            0..=12 => cases::headers(&mut check, &mut rng, 2_000),
-            13..=46 => cases::setup::run(&mut check, &mut rng, 2_000),
+            0..=12 | 81..=102 | 117 => cases::headers(&mut check, &mut rng, 2_000),
+            13..=46 | 103..=111 => cases::setup::run(&mut check, &mut rng, 2_000),
             _ => cases::reply::run(&mut check, &mut rng, 2_000),
         };
         assert!(outcome.is_err(), "wrong port {wrong} went unseen");
     }
+}
+
+/// Without a wrong port's mistake the three groups agree, so each is found for what it is.
+#[test]
+fn without_a_mistake_the_ports_agree() {
+    let (mut check, rng) = (Checker::new(Wrong(PORTS), 5), &mut Rng(5));
+    cases::headers(&mut check, rng, 2_000).unwrap();
+    cases::setup::run(&mut check, rng, 2_000).unwrap();
+    cases::reply::run(&mut check, rng, 2_000).unwrap();
 }
 
 /// The checks over several calls, each alone: in a run the families before them find the fault.

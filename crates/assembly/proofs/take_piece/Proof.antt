@@ -1,7 +1,7 @@
 -- `assembly::take_piece` meets its contract.
 use denote.Ref.{now}
 use lib.ListN.{length}
-use Rattle.assembly.proofs.Taking.{take-whole}
+use Rattle.assembly.proofs.Words.{words-kept, words-counted}
 use borrow.Author.Needs.{needs}
 use Rattle.assembly.proofs.take_piece.Statement.{statement}
 use Rattle.assembly.proofs.take_piece.Tie as tie
@@ -13,7 +13,24 @@ same-length : tie.Need-same-length
 same-length c = search needs
 
 returns : tie.Need-returns
-returns c = let e = c .before .before .before .put-piece .ensures in (rw (e .0) (take-whole (c .before .before .before .before .before .before .before .args .s) (length (now (c .before .before .before .before .before .before .before .args .out))) (length (now (c .before .before .before .before .before .before .before .args .piece)))), e .1)
+returns c =
+    let a = c .before .before .before .before .before .before .before .before .before .args in
+    let kept = words-kept (now (a .words)) (length (now (a .out))) (length (now (a .piece))) (c .before .before .before .before .put-piece .result) (c .before .before .before .before .put-piece .ensures .0) (c .if1 .taken) in
+    (kept .0, (kept .1, c .before .before .before .before .put-piece .ensures .1))
+
+store-number-requires : tie.Need-store-number-requires
+store-number-requires c κs = search needs
+
+same-length-2 : tie.Need-same-length-2
+same-length-2 c = search needs
+
+returns-2 : tie.Need-returns-2
+returns-2 c =
+    let a = c .before .before .before .before .before .before .before .before .before .before .before .args in
+    let counted = words-counted (now (a .words)) (length (now (a .out))) (length (now (a .piece))) (c .before .before .before .before .before .before .put-piece .result) (c .before .before .before .before .before .before .put-piece .ensures .0) (c .before .before .if1 .left) _ (c .store-number .ensures) in
+    (counted .0, (counted .1, c .before .before .before .before .before .before .put-piece .ensures .1))
 
 pub take-piece-spec : {M : Type 1} → statement M
-take-piece-spec = tie.close (tie.spec put-piece-requires same-length returns)
+take-piece-spec =
+    tie.close
+    (tie.spec put-piece-requires same-length returns store-number-requires same-length-2 returns-2)

@@ -26,7 +26,7 @@ word-at-requires-2 c κs = search needs
 
 returns-3 : tie.Need-returns-3
 unfolding frameWalk
-returns-3 c = rw (frame-done (now (c .before .before .before .before .before .before .args .s)) (c .before .before .before .word-at .result) (c .before .word-at2 .result) (c .before .before .before .before .if1 .left) (c .before .before .before .word-at .ensures) (c .before .before .if2 .left) (c .before .word-at2 .ensures) (c .if3 .taken))
+returns-3 c = rw (frame-done (now (c .before .before .before .before .before .before .before .args .s)) (c .before .before .before .before .word-at .result) (c .before .before .word-at2 .result) (c .before .before .before .before .before .if1 .left) (c .before .before .before .before .word-at .ensures) (c .before .before .before .if2 .left) (c .before .before .word-at2 .ensures) (c .if3 .taken))
 
 walk-error-requires : tie.Need-walk-error-requires
 walk-error-requires c κs = search needs
@@ -35,11 +35,11 @@ ended-requires : tie.Need-ended-requires
 ended-requires c κs = search needs
 
 returns-4 : tie.Need-returns-4
-returns-4 c = rw (c .ended .ensures, c .before .walk-error .ensures, frame-error (now (c .before .before .before .before .before .before .before .before .before .args .s)) (c .before .before .before .before .before .before .word-at .result) (c .before .before .before .before .word-at2 .result) (c .before .before .before .before .before .before .before .if1 .left) (c .before .before .before .before .before .before .word-at .ensures) (c .before .before .before .before .before .if2 .left) (c .before .before .before .before .word-at2 .ensures) (c .before .before .if4 .taken)) (nothing-behind _ _ (omega arith))
+returns-4 c = rw (c .ended .ensures, c .before .walk-error .ensures, frame-error (now (c .before .before .before .before .before .before .before .before .before .before .args .s)) (c .before .before .before .before .before .before .before .word-at .result) (c .before .before .before .before .before .word-at2 .result) (c .before .before .before .before .before .before .before .before .if1 .left) (c .before .before .before .before .before .before .before .word-at .ensures) (c .before .before .before .before .before .before .if2 .left) (c .before .before .before .before .before .word-at2 .ensures) (c .before .before .if4 .taken)) (nothing-behind _ _ (omega arith))
 
 returns-5 : tie.Need-returns-5
 unfolding frameWalk
-returns-5 c = rw (frame-other (now (c .before .before .before .before .before .before .before .before .args .s)) (c .before .before .before .before .before .word-at .result) (c .before .before .before .word-at2 .result) (c .before .before .before .before .before .before .if1 .left) (c .before .before .before .before .before .word-at .ensures) (c .before .before .before .before .if2 .left) (c .before .before .before .word-at2 .ensures) (c .if5 .taken) (c .before .before .if3 .left) (c .before .if4 .left))
+returns-5 c = rw (frame-other (now (c .before .before .before .before .before .before .before .before .before .args .s)) (c .before .before .before .before .before .before .word-at .result) (c .before .before .before .before .word-at2 .result) (c .before .before .before .before .before .before .before .if1 .left) (c .before .before .before .before .before .before .word-at .ensures) (c .before .before .before .before .before .if2 .left) (c .before .before .before .before .word-at2 .ensures) (c .if5 .taken) (c .before .before .if3 .left) (c .before .if4 .left))
 
 lists-kind-requires : tie.Need-lists-kind-requires
 lists-kind-requires c κs = search needs
@@ -48,7 +48,7 @@ walk-lists-requires : tie.Need-walk-lists-requires
 walk-lists-requires c κs = search needs
 
 returns-6 : tie.Need-returns-6
-returns-6 c = rw (c .before .walk-lists .ensures, c .before .before .lists-kind .ensures, c .if6 .taken, frame-msg (now (c .before .before .before .before .before .before .before .before .before .before .before .args .s)) (c .before .before .before .before .before .before .before .before .word-at .result) (c .before .before .before .before .before .before .word-at2 .result) (c .before .before .before .before .before .before .before .before .before .if1 .left) (c .before .before .before .before .before .before .before .before .word-at .ensures) (c .before .before .before .before .before .before .before .if2 .left) (c .before .before .before .before .before .before .word-at2 .ensures) (c .if6 .taken))
+returns-6 c = rw (c .before .walk-lists .ensures, c .before .before .before .before .before .lists-kind .ensures, c .if6 .taken, frame-msg (now (c .before .before .before .before .before .before .before .before .before .before .before .args .s)) (c .before .before .before .before .before .before .before .before .word-at .result) (c .before .before .before .before .before .before .word-at2 .result) (c .before .before .before .before .before .before .before .before .before .if1 .left) (c .before .before .before .before .before .before .before .before .word-at .ensures) (c .before .before .before .before .before .before .before .if2 .left) (c .before .before .before .before .before .before .word-at2 .ensures) (c .if6 .taken))
 
 ended-requires-2 : tie.Need-ended-requires-2
 ended-requires-2 c κs = search needs
@@ -56,7 +56,7 @@ ended-requires-2 c κs = search needs
 returns-7 : tie.Need-returns-7
 returns-7 c =
     let one : c .before .before .before .before .before .before .before .word-at2 .result ≡ 1 = omega arith in
-    rw (c .ended2 .ensures, c .before .before .walk-lists .ensures, c .before .before .before .lists-kind .ensures, one, frame-nomsg (now (c .before .before .before .before .before .before .before .before .before .before .before .before .args .s)) (c .before .before .before .before .before .before .before .before .before .word-at .result) (c .before .before .before .before .before .before .before .word-at2 .result) (c .before .before .before .before .before .before .before .before .before .before .if1 .left) (c .before .before .before .before .before .before .before .before .before .word-at .ensures) (c .before .before .before .before .before .before .before .before .if2 .left) (c .before .before .before .before .before .before .before .word-at2 .ensures) one) (nothing-behind _ _ (omega arith))
+    rw (c .ended2 .ensures, c .before .before .walk-lists .ensures, c .before .before .before .before .before .before .lists-kind .ensures, one, frame-nomsg (now (c .before .before .before .before .before .before .before .before .before .before .before .before .args .s)) (c .before .before .before .before .before .before .before .before .before .word-at .result) (c .before .before .before .before .before .before .before .word-at2 .result) (c .before .before .before .before .before .before .before .before .before .before .if1 .left) (c .before .before .before .before .before .before .before .before .before .word-at .ensures) (c .before .before .before .before .before .before .before .before .if2 .left) (c .before .before .before .before .before .before .before .word-at2 .ensures) one) (nothing-behind _ _ (omega arith))
 
 pub walk-frame-spec : {M : Type 1} → statement M
 walk-frame-spec =
@@ -66,12 +66,12 @@ walk-frame-spec =
     word-at-requires
     returns-2
     word-at-requires-2
+    lists-kind-requires
     returns-3
     walk-error-requires
     ended-requires
     returns-4
     returns-5
-    lists-kind-requires
     walk-lists-requires
     returns-6
     ended-requires-2

@@ -3,6 +3,11 @@ use Rattle.wire.specs.Wire.{readSegmentAt}
 use borrow.Author.Tests.{le-leb, lt-leb, eq-eqb, ne-eqb}
 use Rattle.lists.specs.Lists.{readEntry}
 use borrow.Author.Needs.{needs}
+use native.Mathlib.Omega.{arith}
+use mathlib.Core.Path.{_≡_}
+use mathlib.Core.Bool.{true, false}
+use Prim.Native.Nat.{ℕ, _+_, _*_, _/_, _%_}
+use lib.Dec.{eqb}
 use Rattle.lists.proofs.read_entry.Statement.{statement}
 use Rattle.lists.proofs.read_entry.Tie as tie
 
@@ -13,17 +18,30 @@ returns c = simp (lt-leb _ _ (c .if1 .taken))
 word-at-requires : tie.Need-word-at-requires
 word-at-requires c κs = search needs
 
+rounded-requires : tie.Need-rounded-requires
+rounded-requires c κs = search needs
+
+cast-p : tie.Need-cast-p
+cast-p c = search needs
+
+-- Rounding up leaves just the multiples of 4 as they are.
+unaligned : (x r : ℕ) → r ≡ (x + 3) / 4 * 4 → (r ≡ x → ⊥) → eqb (x % 4) 0 ≡ false
+unaligned x r e n = ne-eqb (x % 4) 0 (λ z. n (omega arith))
+
+aligned : (x r : ℕ) → r ≡ (x + 3) / 4 * 4 → r ≡ x → eqb (x % 4) 0 ≡ true
+aligned x r e n = eq-eqb (x % 4) 0 (omega arith)
+
 returns-2 : tie.Need-returns-2
 unfolding readEntry
-returns-2 c = simp (le-leb _ _ (c .before .before .if1 .left), ← (c .before .word-at .ensures), ne-eqb _ _ (c .if2 .taken))
+returns-2 c = simp (le-leb _ _ (c .before .before .before .if1 .left), ← (c .before .before .word-at .ensures), unaligned _ _ (c .before .rounded .ensures) (c .if2 .taken))
 
 returns-3 : tie.Need-returns-3
 unfolding readEntry
-returns-3 c = simp (le-leb _ _ (c .before .before .before .if1 .left), ← (c .before .before .word-at .ensures), eq-eqb _ _ (c .before .if2 .left), lt-leb _ _ (c .if3 .taken))
+returns-3 c = simp (le-leb _ _ (c .before .before .before .before .if1 .left), ← (c .before .before .before .word-at .ensures), aligned _ _ (c .before .before .rounded .ensures) (c .before .if2 .left), lt-leb _ _ (c .if3 .taken))
 
 returns-4 : tie.Need-returns-4
 unfolding readEntry readSegmentAt
-returns-4 c = simp (le-leb _ _ (c .before .before .before .if1 .left), ← (c .before .before .word-at .ensures), eq-eqb _ _ (c .before .if2 .left), le-leb _ _ (c .if3 .left))
+returns-4 c = simp (le-leb _ _ (c .before .before .before .before .if1 .left), ← (c .before .before .before .word-at .ensures), aligned _ _ (c .before .before .rounded .ensures) (c .before .if2 .left), le-leb _ _ (c .if3 .left))
 
 pub read-entry-spec : {M : Type 1} → statement M
-read-entry-spec = tie.close (tie.spec returns word-at-requires returns-2 returns-3 returns-4)
+read-entry-spec = tie.close (tie.spec returns word-at-requires rounded-requires cast-p returns-2 returns-3 returns-4)

@@ -1,9 +1,7 @@
 -- `writer::header_length` meets its contract.
-use mathlib.Core.Path.{ap}
-use Prim.Native.Nat.{_+_}
 use native.Mathlib.Omega.{arith}
 use borrow.Author.Needs.{needs}
-use Rattle.writer.proofs.Laws.{reply-within, error-within, not-error}
+use Rattle.writer.proofs.Laws.{reply-within, not-error}
 use Rattle.writer.proofs.header_length.Statement.{statement}
 use Rattle.writer.proofs.header_length.Tie as tie
 
@@ -18,25 +16,22 @@ reply-length-requires c κs = search needs
 
 lists-length-requires : tie.Need-lists-length-requires
 lists-length-requires c κs =
-    let small = reply-within (c .before .before .before .args .present) (c .before .before .before .args .replies) (omega arith) in
+    let small = reply-within (c .before .before .before .before .args .present) (c .before .before .before .before .args .replies) (omega arith) in
     search needs
 
 add-result : tie.Need-add-result
 add-result c =
-    let small = reply-within (c .before .before .before .before .args .present) (c .before .before .before .before .args .replies) (omega arith) in
+    let small = reply-within (c .before .before .before .before .before .args .present) (c .before .before .before .before .before .args .replies) (omega arith) in
     search needs
 
 returns : tie.Need-returns
-returns c = λ parts e. rw (not-error (c .before .before .before .before .args .kind) (c .before .before .before .match .keys2) parts) (omega arith)
+returns c = λ parts e. rw (not-error (c .before .before .before .before .before .args .kind) (c .before .before .before .match .keys2) parts) (omega arith)
 
 error-length-requires : tie.Need-error-length-requires
 error-length-requires c κs = search needs
 
-add-result-2 : tie.Need-add-result-2
-add-result-2 c = let small = error-within (c .before .before .kind .given .0 .0) in search needs
-
 returns-2 : tie.Need-returns-2
-returns-2 c = λ parts e. rw (c .before .before .kind .given .1) (ap (λ n. 16 + n) (c .error-length .ensures))
+returns-2 c = λ parts e. rw (c .before .before .kind .given .1) (c .error-length .ensures)
 
 pub header-length-spec : {M : Type 1} → statement M
 header-length-spec =
@@ -49,5 +44,4 @@ header-length-spec =
     add-result
     returns
     error-length-requires
-    add-result-2
     returns-2)

@@ -27,7 +27,7 @@ returns-4 c = simp (le-leb _ _ (c .before .before .before .before .if1 .left), l
 
 returns-5 : tie.Need-returns-5
 unfolding withinLimits
-returns-5 c = simp (le-leb _ _ (c .before .before .before .before .if1 .left), le-leb _ _ (c .before .before .before .if2 .left), ← (c .before .before .total-count .ensures), le-leb _ _ (c .before .if3 .left), c .if4 .left) (only-zero (c .before .before .before .before .before .args .replies))
+returns-5 c = simp (le-leb _ _ (c .before .before .before .before .if1 .left), le-leb _ _ (c .before .before .before .if2 .left), ← (c .before .before .total-count .ensures), le-leb _ _ (c .before .if3 .left), c .if4 .left) (only-zero (c .before .before .before .before .before .before .args .replies))
 
 pub within-limits-spec : {M : Type 1} → statement M
 within-limits-spec =

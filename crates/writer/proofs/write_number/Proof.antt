@@ -1,41 +1,73 @@
 -- `writer::write_number` meets its contract.
 use mathlib.Core.Bool.{true}
 use mathlib.Core.Path.{_≡_, sym, _∙_}
+use mathlib.Core.List.{List}
+use Prim.Native.Nat.{ℕ}
+use denote.Ref.{now}
+use native.Mathlib.Omega.{arith}
 use lib.Dec.{leb}
-use lib.ListN.{take, length}
+use lib.ListN.{take, length, getD}
 use borrow.Author.Tests.{le-leb, lt-leb, not-true, not-false}
 use borrow.Author.Needs.{needs}
 use Rattle.wire.specs.Answers.{check}
 use Rattle.lists.specs.Lists.{positionsNumber}
+use Rattle.lists.specs.Words.{readsIn}
 use Rattle.header.specs.Content.{contentOf}
-use Rattle.writer.specs.Write.{withinLimits, writeNumber}
+use Rattle.header.specs.Words.{readCountAt, headerAs}
+use Rattle.header.specs.declared.Header.{Header}
+use Rattle.writer.specs.Write.{writeNumber}
+use Rattle.writer.specs.Words.{limitsKept}
 use Rattle.writer.specs.Bytes.{headerBytes}
 use Rattle.writer.proofs.Laws.{Passed, passed, sized, positions-fault, positions-fine}
+use borrow.Author.Needs.{needs}
 use Rattle.writer.proofs.write_number.Statement.{statement}
 use Rattle.writer.proofs.write_number.Tie as tie
 
--- The entry, from behind the check of the limits.
+-- The entry, from behind the check of the limits, and the header that the words hold.
 abbrev entry : tie.Else2 → tie.Start
-entry c = c .before .before .before .before .before .before .before .before .before
+entry c = c .before .before .before .before .before .before .before .before
+
+abbrev lent : tie.Else2 → List ℕ
+lent c = now (entry c .args .words)
+
+abbrev held : tie.Else2 → Header
+held c = headerAs (lent c) (entry c .args .kind) (entry c .args .present)
 
 -- What that check has shown.
-within : (c : tie.Else2) → withinLimits (entry c .args .h .reads .count) (entry c .args .h .writes .chunks) (entry c .args .h .writes .counts) (entry c .args .h .reply .present) (entry c .args .h .reply .count) ≡ true
+within : (c : tie.Else2) → limitsKept (lent c) (entry c .args .present) ≡ true
 within c = sym (c .before .within-limits .ensures) ∙ not-false (c .before .within-limits .result) (c .if2 .left)
 
-known : (c : tie.Else2) → Passed (entry c .args .h .reads) (entry c .args .h .writes) (entry c .args .h .reply)
-known c =
-    let g = entry c .good .0 .1 .1 in
-    passed (entry c .args .h .reads) (entry c .args .h .writes) (entry c .args .h .reply) _ _ _ (g .0) (g .1 .0) (g .1 .1 .0) (within c)
+known : (c : tie.Else2) → Passed (lent c) (entry c .args .present)
+known c = passed (lent c) (entry c .args .present) (entry c .pre) (within c)
 
 -- The number then, and the number behind the check of the positions.
-then-positions : (c : tie.Else2) → writeNumber (entry c .args .h) (entry c .args .room) ≡ positionsNumber 0 (take (entry c .args .h .reads .count) (entry c .args .h .reads .segments)) (check (leb (length (headerBytes (contentOf (entry c .args .h)))) 1024) 21 (check (leb (length (headerBytes (contentOf (entry c .args .h)))) (entry c .args .room)) 16 0))
+then-positions : (c : tie.Else2) → let n = length (headerBytes (contentOf (held c))) in writeNumber (held c) (entry c .args .room) ≡ positionsNumber 0 (take (getD (lent c) readCountAt 0) (readsIn (lent c))) (check (leb n 1024) 21 (check (leb n (entry c .args .room)) 16 0))
 unfolding writeNumber contentOf
 then-positions c = simp (← (c .before .before .before .bare-if-error .ensures), not-false (c .before .before .before .bare-if-error .result) (c .before .before .if1 .left), within c)
 
-then-length : (c : tie.After-header-length) → writeNumber (entry (c .before .before .before .before .before .before) .args .h) (entry (c .before .before .before .before .before .before) .args .room) ≡ check (leb (c .header-length .result) 1024) 21 (check (leb (c .header-length .result) (entry (c .before .before .before .before .before .before) .args .room)) 16 0)
+then-length : (c : tie.After-header-length) → let n = c .header-length .result in writeNumber (held (c .before .before .before)) (entry (c .before .before .before) .args .room) ≡ check (leb n 1024) 21 (check (leb n (entry (c .before .before .before) .args .room)) 16 0)
 then-length c =
-    let size = sized (entry (c .before .before .before .before .before .before) .args .h) (c .header-length .result) (known (c .before .before .before .before .before .before)) (c .header-length .ensures) in
-    then-positions (c .before .before .before .before .before .before) ∙ simp (positions-fine 0 _ (sym (c .before .before .before .before .positions-number .ensures) ∙ c .before .before .before .if3 .left), size)
+    let limits = c .before .before .before in
+    let size = sized (lent limits) (entry limits .args .kind) (entry limits .args .present) (c .header-length .result) (known limits) (c .header-length .ensures) in
+    then-positions limits ∙ simp (positions-fine 0 _ (sym (c .before .before .positions-in .ensures) ∙ c .before .if3 .left), size)
+
+shared-slice-read-reads : tie.Need-shared-slice-read-reads
+shared-slice-read-reads c = search needs
+
+cast-reads : tie.Need-cast-reads
+cast-reads c = let small = c .shared-slice-known2 .given 228 in search needs
+
+shared-slice-read-chunks : tie.Need-shared-slice-read-chunks
+shared-slice-read-chunks c = search needs
+
+cast-chunks : tie.Need-cast-chunks
+cast-chunks c = let small = c .shared-slice-known3 .given 229 in search needs
+
+shared-slice-read-replies : tie.Need-shared-slice-read-replies
+shared-slice-read-replies c = search needs
+
+cast-replies : tie.Need-cast-replies
+cast-replies c = let small = c .shared-slice-known4 .given 231 in search needs
 
 bare-if-error-requires : tie.Need-bare-if-error-requires
 bare-if-error-requires c κs = search needs
@@ -51,23 +83,14 @@ returns-2 : tie.Need-returns-2
 unfolding writeNumber
 returns-2 c = simp (← (c .before .before .before .bare-if-error .ensures), not-false (c .before .before .before .bare-if-error .result) (c .before .before .if1 .left), ← (c .before .within-limits .ensures), not-true (c .before .within-limits .result) (c .if2 .taken))
 
-cast-n : tie.Need-cast-n
-cast-n c = search needs
-
-positions-number-requires : tie.Need-positions-number-requires
-positions-number-requires c κs = known (c .before) .few-reads
+positions-in-requires : tie.Need-positions-in-requires
+positions-in-requires c κs = let k = known c in (k .few-reads, omega arith)
 
 returns-3 : tie.Need-returns-3
-returns-3 c = sym (then-positions (c .before .before .before) ∙ positions-fault 0 _ (λ e. c .if3 .taken (c .before .positions-number .ensures ∙ e)) _ ∙ sym (c .before .positions-number .ensures))
-
-cast-header-length : tie.Need-cast-header-length
-cast-header-length c = search needs
-
-cast-header-length-2 : tie.Need-cast-header-length-2
-cast-header-length-2 c = search needs
+returns-3 c = sym (then-positions (c .before .before) ∙ positions-fault 0 _ (λ e. c .if3 .taken (c .before .positions-in .ensures ∙ e)) _ ∙ sym (c .before .positions-in .ensures))
 
 header-length-requires : tie.Need-header-length-requires
-header-length-requires c κs = let k = known (c .before .before .before .before .before) in (k .few-reads, k .few-chunks, k .few-segments, k .few-replies)
+header-length-requires c κs = let k = known (c .before .before) in (c .before .before .before .before .before .before .before .before .before .before .pre, k .few-reads, k .few-chunks, k .few-segments, k .few-replies)
 
 returns-4 : tie.Need-returns-4
 returns-4 c = sym (then-length (c .before) ∙ simp (lt-leb _ _ (c .if4 .taken)))
@@ -82,15 +105,18 @@ pub write-number-spec : {M : Type 1} → statement M
 write-number-spec =
     tie.close
     (tie.spec
+    shared-slice-read-reads
+    cast-reads
+    shared-slice-read-chunks
+    cast-chunks
+    shared-slice-read-replies
+    cast-replies
     bare-if-error-requires
     returns
     within-limits-requires
     returns-2
-    cast-n
-    positions-number-requires
+    positions-in-requires
     returns-3
-    cast-header-length
-    cast-header-length-2
     header-length-requires
     returns-4
     returns-5

@@ -3,16 +3,14 @@
 //! behind lib-, plain- or copy-, INPUT the row's input. A fill is all pieces of a 1 MiB message.
 
 #[cfg(not(port))]
-compile_error!("set EOS_LIB_DIR to the folder that holds libport.a");
+compile_error!("set EOS_LIB_DIR to the folder that holds libeoswynnor.a");
 
-use compare::abi::{flatten, Flat, FlatSetup, FlatState, Library};
+use compare::abi::{flatten, Flat, FlatAgreement, FlatSetup, FlatState, Library};
 use compare::cases::assembly::Frame;
 use compare::cases::setup::C10;
 use compare::check::{Port, Rng};
 use compare::oracle::Kind;
-use compare::plain::{plain_agree, plain_ask, plain_error_reply, plain_grant, plain_message};
-use compare::plain::{plain_read_into, plain_read_setup, plain_write, plain_write_setup};
-use compare::plain::{plain_start, plain_take_piece};
+use compare::plain::Plain;
 use compare::{cases, oracle};
 use std::hint::black_box;
 use std::ops::Range;
@@ -20,7 +18,7 @@ use std::time::Instant;
 
 const RUNS: usize = 21;
 
-const ROWS: [(&str, &str); 27] = [
+const ROWS: [(&str, &str); 26] = [
     ("read", "c2"),
     ("read", "reads16"),
     ("read", "full"),
@@ -43,9 +41,8 @@ const ROWS: [(&str, &str); 27] = [
     ("take", "byte"),
     ("take", "4k"),
     ("take", "4k16"),
-    ("ask", "chunks1"),
-    ("ask", "chunks16"),
     ("message", "chunks1"),
+    ("message", "chunks16"),
     ("fill", "chunks1"),
     ("fill", "chunks16"),
 ];
@@ -120,8 +117,8 @@ fn filling(chunks: usize) -> Filling {
     let segments: Vec<(u32, u32)> = places.iter().map(|&place| (place as u32, each as u32)).collect();
     let frame = Frame::new(Kind::Msg, &segments, &Rng(3).noise(BASE)).bytes();
     let mut out = vec![0; MESSAGE];
-    let answer = Library.start(&frame, &mut out);
-    assert_eq!(answer.number, 0);
+    let mut state = FlatState::ZERO;
+    assert_eq!(Library.start(&frame, &mut out, &mut state), 0);
     let pulled = Rng(4).noise(each * chunks);
     let mut runs = Vec::new();
     let mut taken = 0;
@@ -132,13 +129,13 @@ fn filling(chunks: usize) -> Filling {
         runs.push((place..place + length, taken..taken + length));
         taken += length;
     }
-    Filling { state: answer.state, pulled, out, runs }
+    Filling { state, pulled, out, runs }
 }
 
-fn fill_by(filling: &mut Filling, take: impl Fn(&mut FlatState, &[u8], &mut [u8]) -> u32) {
+fn fill_by<P: Port>(port: &P, filling: &mut Filling) {
     let mut state = filling.state;
     for piece in filling.pulled.chunks(PIECE) {
-        assert_eq!(take(&mut state, black_box(piece), black_box(&mut filling.out)), 0);
+        assert_eq!(port.take_piece(&mut state, black_box(piece), black_box(&mut filling.out)), 0);
     }
     assert_eq!(state.taken, filling.pulled.len());
 }
@@ -153,67 +150,77 @@ fn fill_by_copies(filling: &mut Filling) {
 /// Within the message, so that a run has to be looked for.
 const TAKEN: usize = 40_000;
 
-fn assembly_calls(call: &str, input: &mut Input, count: u64) {
-    let Input { start, filling, piece, .. } = input;
-    let Filling { state, pulled, out, .. } = filling;
-    let mut half = FlatState { taken: TAKEN, ..*state };
-    let whole = FlatState { taken: pulled.len(), ..*state };
-    let piece = &pulled[TAKEN..TAKEN + *piece];
-    let place = TAKEN..TAKEN + piece.len();
-    match call {
-        "lib-start" => repeat(count, || Library.start(black_box(start), black_box(out))),
-        "plain-start" => repeat(count, || plain_start(black_box(start), black_box(out))),
-        "lib-take" => repeat(count, || {
-            half.taken = TAKEN;
-            Library.take_piece(black_box(&mut half), black_box(piece), black_box(out))
-        }),
-        "plain-take" => repeat(count, || {
-            half.taken = TAKEN;
-            plain_take_piece(black_box(&mut half), black_box(piece), black_box(out))
-        }),
-        "copy-take" => repeat(count, || black_box(&mut out[place.clone()]).copy_from_slice(black_box(piece))),
-        "lib-ask" => repeat(count, || Library.ask(black_box(&whole), black_box(out))),
-        "plain-ask" => repeat(count, || plain_ask(black_box(&whole), black_box(out))),
-        "lib-message" => repeat(count, || Library.message(black_box(&whole), black_box(out))),
-        "plain-message" => repeat(count, || plain_message(black_box(&whole), black_box(out))),
-        "lib-fill" => {
-            repeat(count, || fill_by(filling, |state, piece, out| Library.take_piece(state, piece, out)))
-        }
-        "plain-fill" => repeat(count, || fill_by(filling, plain_take_piece)),
-        "copy-fill" => repeat(count, || fill_by_copies(filling)),
-        _ => panic!("call is a row's, behind lib-, plain- or copy-"),
-    }
-}
-
 fn repeat<T>(count: u64, mut call: impl FnMut() -> T) {
     for _ in 0..count {
         let _ = black_box(&call());
     }
 }
 
-fn calls(call: &str, input: &mut Input, count: u64) {
+/// Each maker is lent the same.
+fn calls_of<P: Port>(port: &P, call: &str, input: &mut Input, count: u64) {
     let Input { frame, flat, number, .. } = &*input;
-    let (mut out, mut place) = ([0; 1024], Flat::ZERO);
+    let (mut out, mut length, mut header) = ([0; 1024], 0, Flat::ZERO);
+    let (mut setup, mut present) = (FlatSetup::default(), 0);
+    let (mut agreement, mut credit) = (FlatAgreement::default(), 0);
     match call {
-        "lib-read" => repeat(count, || Library.read(black_box(frame))),
-        "plain-read" => repeat(count, || plain_read_into(black_box(frame), black_box(&mut place))),
-        "lib-write" => repeat(count, || Library.write(black_box(flat), black_box(&mut out))),
-        "plain-write" => repeat(count, || plain_write(black_box(flat), black_box(&mut out))),
-        "lib-read-setup" => repeat(count, || Library.read_setup(black_box(&C10))),
-        "plain-read-setup" => repeat(count, || plain_read_setup(black_box(&C10))),
-        "lib-write-setup" => repeat(count, || Library.write_setup(black_box(CLIENT), black_box(&mut out))),
-        "plain-write-setup" => repeat(count, || plain_write_setup(black_box(CLIENT), black_box(&mut out))),
-        "lib-agree" => repeat(count, || Library.agree(black_box(CLIENT), black_box(SERVER))),
-        "plain-agree" => repeat(count, || plain_agree(black_box(CLIENT), black_box(SERVER))),
-        "lib-grant" => repeat(count, || Library.grant(black_box(100), black_box(32))),
-        "plain-grant" => repeat(count, || plain_grant(black_box(100), black_box(32))),
-        "lib-error-reply" => repeat(count, || {
-            Library.error_reply(black_box(frame), black_box(*number), black_box(32), black_box(&mut out))
+        "read" => repeat(count, || port.read(black_box(frame), black_box(&mut header))),
+        "write" => repeat(count, || port.write(black_box(flat), black_box(&mut out), black_box(&mut length))),
+        "read-setup" => {
+            repeat(count, || port.read_setup(black_box(&C10), black_box(&mut setup), black_box(&mut present)))
+        }
+        "write-setup" => repeat(count, || {
+            port.write_setup(black_box(&CLIENT), black_box(&mut out), black_box(&mut length))
         }),
-        "plain-error-reply" => repeat(count, || {
-            plain_error_reply(black_box(frame), black_box(*number), black_box(32), black_box(&mut out))
+        "agree" => {
+            repeat(count, || port.agree(black_box(&CLIENT), black_box(&SERVER), black_box(&mut agreement)))
+        }
+        "grant" => repeat(count, || port.grant(black_box(100), black_box(32), black_box(&mut credit))),
+        "error-reply" => repeat(count, || {
+            let (number, limit) = (black_box(*number), black_box(32));
+            port.error_reply(black_box(frame), number, limit, black_box(&mut out), black_box(&mut length))
         }),
-        _ => assembly_calls(call, input, count),
+        _ => assembly_calls_of(port, call, input, count),
+    }
+}
+
+fn assembly_calls_of<P: Port>(port: &P, call: &str, input: &mut Input, count: u64) {
+    let Input { start, filling, piece, .. } = input;
+    let Filling { state, pulled, out, .. } = filling;
+    let (mut started, mut length) = (FlatState::ZERO, 0);
+    let mut half = FlatState { taken: TAKEN, ..*state };
+    let whole = FlatState { taken: pulled.len(), ..*state };
+    let piece = &pulled[TAKEN..TAKEN + *piece];
+    match call {
+        "start" => repeat(count, || port.start(black_box(start), black_box(out), black_box(&mut started))),
+        "take" => repeat(count, || {
+            half.taken = TAKEN;
+            port.take_piece(black_box(&mut half), black_box(piece), black_box(out))
+        }),
+        "message" => {
+            repeat(count, || port.message(black_box(&whole), black_box(out), black_box(&mut length)))
+        }
+        "fill" => repeat(count, || fill_by(port, filling)),
+        _ => panic!("call is a row's, behind lib-, plain- or copy-"),
+    }
+}
+
+fn copies(call: &str, input: &mut Input, count: u64) {
+    let Input { filling, piece, .. } = input;
+    if call == "fill" {
+        return repeat(count, || fill_by_copies(filling));
+    }
+    let place = TAKEN..TAKEN + *piece;
+    let Filling { pulled, out, .. } = filling;
+    let piece = &pulled[place.clone()];
+    repeat(count, || black_box(&mut out[place.clone()]).copy_from_slice(black_box(piece)))
+}
+
+fn calls(call: &str, input: &mut Input, count: u64) {
+    match call.split_once('-') {
+        Some(("lib", call)) => calls_of(&Library, call, input, count),
+        Some(("plain", call)) => calls_of(&Plain, call, input, count),
+        Some(("copy", call)) => copies(call, input, count),
+        _ => panic!("call is a row's, behind lib-, plain- or copy-"),
     }
 }
 

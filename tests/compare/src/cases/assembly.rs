@@ -1,7 +1,7 @@
 //! Families for the reassembly: starts, single calls with any state, whole lists of calls.
 
 use super::{bases, put, words};
-use crate::abi::{flatten_state, FlatState};
+use crate::abi::{flatten_state, FlatRead, FlatState};
 use crate::assembly::{State, MAX_MESSAGE};
 use crate::check::{Checker, Outcome, Port, Rng, Step};
 use crate::oracle::{encode, Fault, Header, Kind, ReadSegment, Segment, MAX_READS};
@@ -206,12 +206,13 @@ impl Rng {
         }
     }
 
-    /// Noise in every unused place.
+    /// Noise in every unused place and reserved word.
     fn noisy_state(&mut self, state: &State) -> FlatState {
         let mut flat = flatten_state(state);
         for place in &mut flat.reads[state.reads.len()..] {
-            *place = ReadSegment { position: self.word(), target: self.segment() };
+            *place = ReadSegment { position: self.word(), target: self.segment() }.into();
         }
+        self.reserved(&mut flat.reads);
         flat
     }
 }
@@ -558,7 +559,7 @@ pub fn lists<P: Port>(check: &mut Checker<P>, rng: &mut Rng, cases: u64) -> Outc
         check.tallied(&uncut, &one, &before, &first)?;
         check.two_cuts([&one, &two], &before, [&first, &second])?;
     }
-    // Pieces of any length, and starts that may be refused: the zero state is then handed on.
+    // Pieces of any length, and starts that may be refused: any state is then handed on.
     check.family("lists of any pieces");
     for _ in 0..cases / 4 {
         let kind = KINDS[rng.below(2)];
@@ -631,7 +632,7 @@ pub fn states<P: Port>(check: &mut Checker<P>, rng: &mut Rng, cases: u64) -> Out
         near(good.taken).into_iter().for_each(|value| with(&|state| state.taken = value));
         near(to_pull).into_iter().for_each(|value| with(&|state| state.taken = value));
         for at in 0..MAX_READS {
-            let ReadSegment { position, target } = good.reads[at];
+            let FlatRead { position, target, reserved } = good.reads[at];
             for step in [-8, -4, -2, -1, 1, 2, 3, 4, 8] {
                 with(&|state| state.reads[at].position = position.wrapping_add_signed(step));
                 with(&|state| state.reads[at].target.length = target.length.wrapping_add_signed(step));
@@ -642,6 +643,7 @@ pub fn states<P: Port>(check: &mut Checker<P>, rng: &mut Rng, cases: u64) -> Out
             }
             with(&|state| state.reads[at].target.handle = !target.handle);
             with(&|state| state.reads[at].target.offset = !target.offset);
+            with(&|state| state.reads[at].reserved = !reserved);
         }
         for state in &altered {
             every_call(check, rng, state, room)?;

@@ -1,8 +1,8 @@
-//! The checks of start, piece, asking and message: call by call beside the oracle, list by list
+//! The checks of start, piece and message: call by call beside the oracle, list by list
 //! beside the tally, one cut beside another, and beside bytes that document 01 names.
 
-use super::{hex, Call, Checker, Form, Outcome, Port};
-use crate::abi::{flatten_state, unflatten_state, FlatState, FlatStateAnswer, Part, NOMSG};
+use super::{hex, Call, Checker, Form, Outcome, Place, Port};
+use crate::abi::{flatten_state, unflatten_state, FlatState, NOMSG};
 use crate::assembly::{self, MAX_MESSAGE};
 use crate::oracle::MAX_READS;
 use crate::tally::Tally;
@@ -36,7 +36,7 @@ fn short(bytes: &[u8]) -> String {
 #[derive(Clone, Debug, PartialEq)]
 struct Trace {
     start: u32,
-    /// Each number; beside an asking's, the bytes of the part handed back.
+    /// Each number; beside that of a message asked for, its bytes.
     answers: Vec<(u32, Vec<u8>)>,
     count: usize,
     buffer: Vec<u8>,
@@ -58,25 +58,25 @@ impl<P: Port> Checker<P> {
         self.start_part(frame, frame.len(), room)
     }
 
-    /// The implementation's start over the memory, the oracle's over `want`.
+    /// The implementation's start over the memory, the oracle's over `want`; its number and the
+    /// state as it leaves it.
     fn begin(
         &mut self,
         bytes: &[u8],
         length: usize,
         lent: &Range<usize>,
         want: &mut [u8],
-    ) -> Result<FlatStateAnswer, String> {
+    ) -> Result<(u32, FlatState), String> {
         let from = self.surround(bytes);
-        let got = self.port.start(&self.input[from..from + length], &mut self.memory[lent.clone()]);
-        self.seen.number(Call::Start, got.number);
-        let right = match assembly::start(&bytes[..length], &mut want[lent.clone()]) {
-            Ok(state) => FlatStateAnswer { state: flatten_state(&state), number: 0 },
-            Err(number) => FlatStateAnswer { state: FlatState::ZERO, number },
-        };
-        same_answer(&got, &right)?;
+        let mut state = Place::noise(&mut self.noise);
+        let frame = &self.input[from..from + length];
+        let number = self.port.start(frame, &mut self.memory[lent.clone()], state.lent());
+        self.seen.number(Call::Start, number);
+        let right = assembly::start(&bytes[..length], &mut want[lent.clone()]);
+        state.judge(number, right.map(|state| flatten_state(&state)))?;
         self.same_input(from, bytes)?;
         self.same_memory(lent, want)?;
-        Ok(got)
+        Ok((number, state.now.value))
     }
 
     fn same_input(&self, from: usize, bytes: &[u8]) -> Outcome {
@@ -103,28 +103,24 @@ impl<P: Port> Checker<P> {
         piece: &[u8],
         lent: &Range<usize>,
         want: &mut [u8],
-    ) -> Result<FlatStateAnswer, String> {
+    ) -> Result<(u32, FlatState), String> {
         let from = self.surround(piece);
+        let mut place = Place::holding(*state, &mut self.noise);
         let lent_piece = &self.input[from..from + piece.len()];
-        let mut got = FlatStateAnswer { state: *state, number: 0 };
-        got.number = self.port.take_piece(&mut got.state, lent_piece, &mut self.memory[lent.clone()]);
-        self.seen.number(Call::Piece, got.number);
-        // Only the count may change; unused places and all else stay as handed in.
-        let mut right = FlatStateAnswer { state: *state, number: 0 };
-        let taken = unflatten_state(state).and_then(|mut state| {
-            assembly::take(&mut state, piece, &mut want[lent.clone()]).map(|()| state.taken)
+        let number = self.port.take_piece(place.lent(), lent_piece, &mut self.memory[lent.clone()]);
+        self.seen.number(Call::Piece, number);
+        // Only the count may change; unused places, reserved words and all else stay as handed in.
+        let right = unflatten_state(state).and_then(|mut natural| {
+            assembly::take(&mut natural, piece, &mut want[lent.clone()])?;
+            Ok(FlatState { taken: natural.taken, ..*state })
         });
-        match taken {
-            Ok(taken) => right.state.taken = taken,
-            Err(number) => right.number = number,
-        }
-        same_answer(&got, &right)?;
+        place.judge(number, right)?;
         self.same_input(from, piece)?;
         self.same_memory(lent, want)?;
-        Ok(got)
+        Ok((number, place.now.value))
     }
 
-    /// Asking and the message, with any state and a buffer of any length.
+    /// Asking for the message, with any state and a buffer of any length.
     pub fn ask(&mut self, state: &FlatState, room: usize) -> Outcome {
         self.count();
         let lent = self.lend(room);
@@ -135,20 +131,11 @@ impl<P: Port> Checker<P> {
     }
 
     fn ask_over(&mut self, state: &FlatState, lent: &Range<usize>, want: &[u8]) -> Result<u32, String> {
-        let number = self.port.ask(state, &mut self.memory[lent.clone()]);
-        let part = self.port.message(state, &mut self.memory[lent.clone()]);
-        self.seen.number(Call::Ask, number);
+        let mut length = Place::noise(&mut self.noise);
+        let number = self.port.message(state, &mut self.memory[lent.clone()], length.lent());
+        self.seen.number(Call::Message, number);
         let right = unflatten_state(state).and_then(|state| assembly::ask(&state, lent.len()));
-        let (right, length) = match right {
-            Ok(length) => (0, length),
-            Err(number) => (number, 0),
-        };
-        if number != right {
-            return Err(format!("number of the asking: got {number}, want {right}"));
-        }
-        if part != (Part { offset: 0, length }) {
-            return Err(format!("message: got {part:?}, want offset 0, length {length}"));
-        }
+        length.judge(number, right).map_err(|what| format!("message: {what}"))?;
         self.same_memory(lent, want)?;
         Ok(number)
     }
@@ -164,23 +151,31 @@ impl<P: Port> Checker<P> {
 
     fn walk(&mut self, frame: &[u8], lent: &Range<usize>, steps: &[Step]) -> Outcome {
         let mut want = self.memory.clone();
-        let mut last = self.begin(frame, frame.len(), lent, &mut want)?;
+        let (number, mut state) = self.begin(frame, frame.len(), lent, &mut want)?;
+        // Behind a refused start any state may be handed on: the noise, or as often zeros.
+        if number != 0 && self.noise.below(2) == 0 {
+            state = FlatState::ZERO;
+        }
+        // Reserved words are ignored; every piece must keep them.
+        if self.noise.below(2) == 0 {
+            state.reads.iter_mut().for_each(|entry| entry.reserved = self.noise.any());
+        }
         let (mut finished, mut refused) = (false, false);
         for (at, step) in steps.iter().enumerate() {
             let number = match step {
                 Step::Piece(piece) => {
-                    last = self
-                        .take_over(&last.state, piece, lent, &mut want)
+                    let (number, next) = self
+                        .take_over(&state, piece, lent, &mut want)
                         .map_err(|what| format!("call {at}: {what}"))?;
+                    state = next;
                     if finished && piece.is_empty() {
                         self.seen.form(Form::EmptyPieceAtEnd);
                     }
-                    last.number
+                    number
                 }
                 Step::Ask => {
-                    let number = self
-                        .ask_over(&last.state, lent, &want)
-                        .map_err(|what| format!("call {at}: {what}"))?;
+                    let number =
+                        self.ask_over(&state, lent, &want).map_err(|what| format!("call {at}: {what}"))?;
                     finished |= number == 0;
                     number
                 }
@@ -188,7 +183,7 @@ impl<P: Port> Checker<P> {
             refused |= number != 0;
         }
         if finished {
-            self.finished(&last.state, refused);
+            self.finished(&state, refused);
         }
         Ok(())
     }
@@ -213,17 +208,25 @@ impl<P: Port> Checker<P> {
         let lent = self.lend(before.len());
         let buffer = &mut self.memory[lent.clone()];
         buffer.copy_from_slice(before);
-        let mut last = self.port.start(frame, buffer);
-        let start = last.number;
+        let mut place = Place::noise(&mut self.noise);
+        let start = self.port.start(frame, buffer, place.lent());
+        if start != 0 {
+            place.kept()?;
+        }
+        let mut state = place.now.value;
         let mut answers = Vec::new();
         for step in steps {
             answers.push(match step {
-                Step::Piece(piece) => (self.port.take_piece(&mut last.state, piece, buffer), Vec::new()),
+                Step::Piece(piece) => (self.port.take_piece(&mut state, piece, buffer), Vec::new()),
                 Step::Ask => {
-                    let number = self.port.ask(&last.state, buffer);
-                    let part = self.port.message(&last.state, buffer);
-                    let bytes = buffer.get(part.offset..part.offset.saturating_add(part.length));
-                    (number, bytes.ok_or(format!("{part:?} lies outside the buffer"))?.to_vec())
+                    let mut length = Place::noise(&mut self.noise);
+                    let number = self.port.message(&state, buffer, length.lent());
+                    if number != 0 {
+                        length.kept()?;
+                    }
+                    let length = if number == 0 { length.now.value } else { 0 };
+                    let bytes = buffer.get(..length);
+                    (number, bytes.ok_or(format!("{length} bytes lie outside the buffer"))?.to_vec())
                 }
             });
         }
@@ -233,7 +236,7 @@ impl<P: Port> Checker<P> {
                 return Err("a byte outside the buffer was changed".to_string());
             }
         }
-        Ok(Trace { start, answers, count: last.state.taken, buffer })
+        Ok(Trace { start, answers, count: state.taken, buffer })
     }
 
     /// Demand 3: any cut of an accepted start and any list, beside the tally, which sees no cut.
@@ -275,7 +278,8 @@ impl<P: Port> Checker<P> {
         let room = want.map_or(64, <[u8]>::len) + 3;
         let before = vec![held; room];
         let steps = [Step::Piece(pulled.to_vec()), Step::Ask];
-        let got = self.trace(frame, &before, &steps)?;
+        let got =
+            self.trace(frame, &before, &steps).map_err(|what| told(what, &[frame], &before, &[&steps]))?;
         let right = match want {
             Ok(message) => {
                 let buffer = [message, &before[message.len()..]].concat();
@@ -287,16 +291,6 @@ impl<P: Port> Checker<P> {
         let got = if want.is_err() { Trace { answers: vec![], count: 0, ..got } } else { got };
         same_trace(&got, &right).map_err(|what| told(what, &[frame], &before, &[&steps]))
     }
-}
-
-fn same_answer(got: &FlatStateAnswer, want: &FlatStateAnswer) -> Outcome {
-    if got.number != want.number {
-        return Err(format!("number: got {}, want {}", got.number, want.number));
-    }
-    if got.state != want.state {
-        return Err(format!("state: got {:?}\nwant {:?}", got.state, want.state));
-    }
-    Ok(())
 }
 
 fn same_trace(got: &Trace, want: &Trace) -> Outcome {

@@ -1,7 +1,7 @@
 //! A third reassembly into which one mistake at a time is put; each must be found.
 
-use super::Wrong;
-use crate::abi::{flatten_state, FlatState, FlatStateAnswer, Part, MSG, NOMSG};
+use super::{store_behind, Wrong};
+use crate::abi::{flatten_state, FlatRead, FlatState, MSG, NOMSG};
 use crate::assembly::{self, State};
 use crate::cases::assembly::{self as families, c6, c7, c8, c9, Frame, C6, INLINE, PULLED};
 use crate::check::{Checker, Outcome, Rng, Step};
@@ -39,8 +39,13 @@ mistakes! {
     AnyKind AnyCount No9 No8 No12Msg No12Nomsg No13 No14 No15 No16 AnyBuffer AnyTaken AnyBase
     AskingUnchecked EighteenFirst TakenIn32Bits BaseIn32Bits
     // Asking.
-    No19 NineteenEarly FixedMessage PartBeside19 EmptyPartOffset WholeBufferPart UnpaddedPart AskingWrites
-    MessageWrites
+    No19 NineteenEarly FixedMessage LengthBeside19 EmptyNotStored WholeBufferLength UnpaddedLength
+    AskingWrites MessageWrites
+    // What is lent and the reserved words.
+    RefusedStartZeroed RefusedReadingZeroed RefusedStartStores StartReservedKept StartUnusedReservedKept
+    StartReservedSet StartUnusedKept StartBehindStored PieceReservedCleared PieceUnusedReservedCleared
+    EmptyPieceReservedCleared RefusedReservedCleared PieceBehindStored Refused17Length Refused19Length
+    Beside17Length MessageBehindStored ReservedRefused UnusedReservedRefused ReservedInPosition
 }
 
 use Mistake::*;
@@ -294,20 +299,42 @@ impl Wrong {
         Ok(State { kind: header.kind, reads: header.reads, base, buffer, taken })
     }
 
-    pub fn faulty_start(&self, frame: &[u8], out: &mut [u8]) -> FlatStateAnswer {
-        match self.begin(frame, out) {
-            Ok(state) => FlatStateAnswer { state: flatten_state(&state), number: 0 },
-            Err(number) => {
-                let mut state = FlatState::ZERO;
-                if self.has(RefusedStartState) {
-                    state.buffer = out.len();
-                }
-                if self.has(RefusedStartKind) && frame.get(15) == Some(&1) {
-                    state.kind = NOMSG;
-                }
-                FlatStateAnswer { state, number }
+    pub fn faulty_start(&self, frame: &[u8], out: &mut [u8], place: &mut FlatState) -> u32 {
+        let before = *place;
+        let number = match self.begin(frame, out) {
+            Ok(state) => {
+                *place = flatten_state(&state);
+                0
             }
+            Err(number) => number,
+        };
+        let used = place.read_count as usize;
+        match number {
+            1.. if self.has(RefusedStartState) => place.buffer = out.len(),
+            1.. if self.has(RefusedStartKind) && frame.get(15) == Some(&1) => place.kind = NOMSG,
+            1.. if self.has(RefusedStartZeroed) => *place = FlatState::ZERO,
+            1..12 if self.has(RefusedReadingZeroed) => *place = FlatState::ZERO,
+            // The state as it would be with more room.
+            16 if self.has(RefusedStartStores) => {
+                *place =
+                    assembly::start(frame, &mut [0; 1 << 20]).map_or(before, |state| flatten_state(&state))
+            }
+            0 if self.has(StartReservedKept) && used > 0 => {
+                place.reads[used - 1].reserved = before.reads[used - 1].reserved
+            }
+            0 if self.has(StartUnusedReservedKept) && used < 16 => {
+                place.reads[15].reserved = before.reads[15].reserved
+            }
+            0 if self.has(StartReservedSet) && used > 0 => place.reads[0].reserved = 1,
+            0 if self.has(StartUnusedKept) => {
+                place.reads[used..].copy_from_slice(&before.reads[used..]);
+            }
+            _ => {}
         }
+        if self.has(StartBehindStored) {
+            store_behind(place, number);
+        }
+        number
     }
 
     fn settled(&self, flat: &FlatState, room: usize) -> Result<(Laid, usize), u32> {
@@ -320,7 +347,18 @@ impl Wrong {
         if flat.read_count > 16 && !self.has(AnyCount) {
             return Err(17);
         }
-        let reads = &flat.reads[..flat.read_count.min(16) as usize];
+        let (used, unused) = flat.reads.split_at(flat.read_count.min(16) as usize);
+        let reserved = |list: &[FlatRead]| list.iter().any(|entry| entry.reserved != 0);
+        if self.has(ReservedRefused) && reserved(used) || self.has(UnusedReservedRefused) && reserved(unused)
+        {
+            return Err(17);
+        }
+        // Position and reserved word taken as one, where the order of positions is checked.
+        let joined = |entry: &FlatRead| u64::from(entry.reserved) << 32 | u64::from(entry.position);
+        if self.has(ReservedInPosition) && !used.is_sorted_by_key(joined) {
+            return Err(17);
+        }
+        let reads = &used.iter().map(|&entry| entry.into()).collect::<Vec<ReadSegment>>()[..];
         let nine = !self.has(No9) && reads.iter().any(|entry| entry.position % 4 != 0);
         let eight = !self.has(No8) && !reads.is_sorted_by_key(|entry| entry.position);
         let mut base = flat.base;
@@ -402,7 +440,15 @@ impl Wrong {
             _ => {}
         }
         if self.has(UnusedZeroed) {
-            flat.reads[flat.read_count as usize..].fill(ReadSegment::default());
+            flat.reads[flat.read_count as usize..].fill(FlatRead::default());
+        }
+        let used = flat.read_count.min(16) as usize;
+        let clear = |list: &mut [FlatRead]| list.iter_mut().for_each(|entry| entry.reserved = 0);
+        match () {
+            _ if self.has(PieceReservedCleared) && !piece.is_empty() => clear(&mut flat.reads[..used]),
+            _ if self.has(PieceUnusedReservedCleared) => clear(&mut flat.reads[used..]),
+            _ if self.has(EmptyPieceReservedCleared) && piece.is_empty() => clear(&mut flat.reads),
+            _ => {}
         }
         Ok(())
     }
@@ -415,7 +461,11 @@ impl Wrong {
             18 if self.has(RefusedUnusedZeroed) => {
                 state.reads[state.read_count as usize..].fill(Default::default())
             }
+            17 | 18 if self.has(RefusedReservedCleared) => state.reads[0].reserved = 0,
             _ => {}
+        }
+        if self.has(PieceBehindStored) {
+            store_behind(state, number);
         }
         number
     }
@@ -430,32 +480,37 @@ impl Wrong {
             return Err(19);
         }
         Ok(match () {
-            _ if self.has(WholeBufferPart) => room,
+            _ if self.has(WholeBufferLength) => room,
             _ if self.has(FixedMessage) => 20.min(room),
-            _ if self.has(UnpaddedPart) => laid.length - laid.padding.len(),
+            _ if self.has(UnpaddedLength) => laid.length - laid.padding.len(),
             _ => laid.length,
         })
     }
 
-    pub fn faulty_ask(&self, state: &FlatState, out: &mut [u8]) -> u32 {
-        let number = self.unless(PIECES).finished(state, out.len()).err().unwrap_or(0);
-        if self.has(AskingWrites) && number == 19 {
-            out[0] ^= 1;
+    pub fn faulty_message(&self, state: &FlatState, out: &mut [u8], place: &mut usize) -> u32 {
+        let number = match self.unless(PIECES).finished(state, out.len()) {
+            Ok(0) if self.has(EmptyNotStored) => 0,
+            Ok(length) => {
+                *place = length;
+                if self.has(MessageWrites) && length > 0 {
+                    out[length - 1] ^= 1;
+                }
+                0
+            }
+            Err(number) => number,
+        };
+        match number {
+            17 if self.has(Refused17Length) => *place = 0,
+            17 if self.has(Beside17Length) => *place = state.base,
+            19 if self.has(Refused19Length) => *place = 0,
+            19 if self.has(LengthBeside19) => *place = state.base.min(out.len()),
+            19 if self.has(AskingWrites) => out[0] ^= 1,
+            _ => {}
+        }
+        if self.has(MessageBehindStored) {
+            store_behind(place, number);
         }
         number
-    }
-
-    pub fn faulty_message(&self, state: &FlatState, out: &mut [u8]) -> Part {
-        let length = match self.unless(PIECES).finished(state, out.len()) {
-            Ok(length) => length,
-            Err(19) if self.has(PartBeside19) => state.base.min(out.len()),
-            Err(_) => 0,
-        };
-        if self.has(MessageWrites) && length > 0 {
-            out[length - 1] ^= 1;
-        }
-        let offset = if self.has(EmptyPartOffset) && length == 0 { out.len() } else { 0 };
-        Part { offset, length }
     }
 }
 
@@ -530,7 +585,7 @@ fn wrong_reassemblies_are_found() {
     }
 }
 
-/// Every clause of 17 counts in taking as well as in asking.
+/// Every clause of 17 counts in taking as well as in asking, and so does what must not be one.
 #[test]
 fn each_clause_of_17_in_each_call() {
     let clauses = [
@@ -549,6 +604,9 @@ fn each_clause_of_17_in_each_call() {
         AnyBase,
         TakenIn32Bits,
         BaseIn32Bits,
+        ReservedRefused,
+        UnusedReservedRefused,
+        ReservedInPosition,
     ];
     for (clause, calls) in clauses.iter().flat_map(|&clause| [(clause, PIECES), (clause, ASKINGS)]) {
         let mut check = Checker::new(Wrong(wrong(clause).0 + calls), 7);
@@ -568,7 +626,20 @@ fn each_group_can_fail() {
     let groups: [(Group, &[Mistake]); 6] = [
         (
             |check, rng| families::starts(check, rng, 2_000),
-            &[SegmentPadding, HeldPadding, UnpaddedCursor, MixedListBounded],
+            &[
+                SegmentPadding,
+                HeldPadding,
+                UnpaddedCursor,
+                MixedListBounded,
+                RefusedStartZeroed,
+                RefusedReadingZeroed,
+                RefusedStartStores,
+                StartReservedKept,
+                StartUnusedReservedKept,
+                StartReservedSet,
+                StartUnusedKept,
+                StartBehindStored,
+            ],
         ),
         (|check, rng| families::sums(check, rng), &[SumIn32Bits, RoundingIn32Bits, EndIn32Bits]),
         (
@@ -577,11 +648,35 @@ fn each_group_can_fail() {
         ),
         (
             |check, rng| families::lists(check, rng, 2_000),
-            &[OnlyFirstPiece, SegmentsApart, OneTooManyTaken, PulledCleared],
+            &[
+                OnlyFirstPiece,
+                SegmentsApart,
+                OneTooManyTaken,
+                PulledCleared,
+                PieceReservedCleared,
+                ReservedRefused,
+                ReservedInPosition,
+                RefusedStartZeroed,
+            ],
         ),
         (
             |check, rng| families::states(check, rng, 2_000),
-            &[PaddingOnPiece, UnusedZeroed, AskingUnchecked, EighteenFirst],
+            &[
+                PaddingOnPiece,
+                UnusedZeroed,
+                AskingUnchecked,
+                EighteenFirst,
+                PieceReservedCleared,
+                PieceUnusedReservedCleared,
+                EmptyPieceReservedCleared,
+                RefusedReservedCleared,
+                PieceBehindStored,
+                Refused17Length,
+                Refused19Length,
+                Beside17Length,
+                MessageBehindStored,
+                EmptyNotStored,
+            ],
         ),
         (
             |check, rng| families::largest(check, rng),
@@ -610,7 +705,7 @@ fn named_errors_are_found() {
         [wrong(SegmentPadding).0, wrong(SegmentPadding).0],
         [wrong(InlinePositions).0, wrong(OverlapTaken).0],
         [wrong(EqualCursor).0, wrong(UnpaddedCursor).0],
-        [wrong(AnyMarker).0, wrong(AnyMarker).0],
+        [wrong(AnyMarker).0, wrong(RefusedStartZeroed).0],
         [wrong(HeldPadding).0, wrong(StartWritesNothing).0],
         [52, 53],
     ];
@@ -667,9 +762,10 @@ fn checks_over_lists_can_fail() {
         BehindTouched,
         No19,
         NineteenEarly,
-        PartBeside19,
-        WholeBufferPart,
-        UnpaddedPart,
+        LengthBeside19,
+        Refused19Length,
+        WholeBufferLength,
+        UnpaddedLength,
         AskingWrites,
         MessageWrites,
         MessageForBuffer,

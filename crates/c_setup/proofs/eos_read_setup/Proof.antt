@@ -1,0 +1,25 @@
+-- `c_setup::eos_read_setup` meets its contract.
+use mathlib.Core.Path.{refl}
+use Rattle.c_setup.specs.Words.{setupWords}
+use borrow.Author.Needs.{needs}
+use Rattle.c_setup.proofs.eos_read_setup.Statement.{statement}
+use Rattle.c_setup.proofs.eos_read_setup.Tie as tie
+
+read-setup-requires : tie.Need-read-setup-requires
+read-setup-requires c κs = search needs
+
+flag-number-requires : tie.Need-flag-number-requires
+flag-number-requires c κs = search needs
+
+flag-number-requires-2 : tie.Need-flag-number-requires-2
+flag-number-requires-2 c κs = search needs
+
+returns : tie.Need-returns
+unfolding setupWords
+returns c =
+    let read = c .before .before .before .before .before .before .read-setup .ensures in
+    rw (c .flag-number2 .ensures, c .before .before .flag-number .ensures, read) (refl, (refl, refl))
+
+pub eos-read-setup-spec : {M : Type 1} → statement M
+eos-read-setup-spec =
+    tie.close (tie.spec read-setup-requires flag-number-requires flag-number-requires-2 returns)

@@ -1,4 +1,0 @@
-pub mod Fill
-pub mod Flat
-pub mod FlatSetup
-pub mod FlatState
