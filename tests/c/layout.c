@@ -182,6 +182,8 @@ static void connecting(void)
 
     EXPECT(eos_agree(&s, &ours, &a) == EOS_DONE && a.client_to_server == 2048 && a.server_to_client == 8192);
     EXPECT(a.remote_invalidation == 1);
+    /* What is only read may be the same. */
+    EXPECT(eos_agree(&s, &s, &a) == EOS_DONE && a.client_to_server == 4096 && a.server_to_client == 4096);
     was = a;
     ours.send = EOS_LARGEST_SIZE + EOS_SMALLEST_SIZE;
     EXPECT(eos_agree(&s, &ours, &a) == EOS_BAD_ARGUMENT && memcmp(&a, &was, sizeof a) == 0);
