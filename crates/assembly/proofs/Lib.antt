@@ -1,5 +1,3 @@
-pub mod Words
-pub mod Starting
-pub mod Judging
-pub mod Taking
+pub mod StateChecks
+pub mod Pieces
 pub mod Kept

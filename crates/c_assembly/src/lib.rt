@@ -1,27 +1,28 @@
 // The reassembly of a call, for C: the state is lent as words, and what a call makes is stored where the caller says.
 ghost use mathlib.Core.Path.{_≡_};
 ghost use lib.ListN.{length};
-ghost use Rattle.header.specs.Frame.{readFrame};
-ghost use Rattle.assembly.specs.Assembly.{startNumber, startInto, takeNumber, takenInto, askNumber};
-ghost use Rattle.c_assembly.specs.Message.{askedSize};
-ghost use Rattle.assembly.specs.Words.{stateIn, startedWords, takenWords};
+ghost use Rattle.reader.specs.Frame.{readFrame};
+ghost use Rattle.assembly_start.specs.Start.{startNumber, startBuffer, startWords};
+ghost use Rattle.assembly.specs.Assembly.{pieceNumber, pieceBuffer, messageNumber, pieceWords};
+ghost use Rattle.c_assembly.specs.Message.{messageSize};
+ghost use Rattle.assembly_state.specs.Words.{stateIn};
 
 // Starts the reassembly of a call.
 #[no_mangle]
 pub extern "C" fn eos_start(frame: &[u8], out: &mut [u8], state: &mut [u32; 104]) -> u32
     ensures answer { λ r. ⌜ r ≡ startNumber (readFrame (now (frame .entry))) (length (now (out .entry))) ⌝ }
-    ensures state { λ _. ⌜ now (state .exit) ≡ startedWords (readFrame (now (frame .entry))) (length (now (out .entry))) (now (state .entry)) ⌝ }
-    ensures buffer { λ _. ⌜ now (out .exit) ≡ startInto (readFrame (now (frame .entry))) (now (out .entry)) ⌝ }
+    ensures state { λ _. ⌜ now (state .exit) ≡ startWords (readFrame (now (frame .entry))) (length (now (out .entry))) (now (state .entry)) ⌝ }
+    ensures buffer { λ _. ⌜ now (out .exit) ≡ startBuffer (readFrame (now (frame .entry))) (now (out .entry)) ⌝ }
 {
-    assembly::start_into(frame, out, state)
+    assembly_start::start_into(frame, out, state)
 }
 
 // Takes a piece of the pulled bytes, which come in list order. Of the state, only the count changes.
 #[no_mangle]
 pub extern "C" fn eos_take_piece(state: &mut [u32; 104], piece: &[u8], out: &mut [u8]) -> u32
-    ensures answer { λ r. ⌜ r ≡ takeNumber (stateIn (now (state .entry))) (length (now (out .entry))) (length (now (piece .entry))) ⌝ }
-    ensures state { λ _. ⌜ now (state .exit) ≡ takenWords (now (state .entry)) (length (now (out .entry))) (length (now (piece .entry))) ⌝ }
-    ensures buffer { λ _. ⌜ now (out .exit) ≡ takenInto (stateIn (now (state .entry))) (now (piece .entry)) (now (out .entry)) ⌝ }
+    ensures answer { λ r. ⌜ r ≡ pieceNumber (stateIn (now (state .entry))) (length (now (out .entry))) (length (now (piece .entry))) ⌝ }
+    ensures state { λ _. ⌜ now (state .exit) ≡ pieceWords (now (state .entry)) (length (now (out .entry))) (length (now (piece .entry))) ⌝ }
+    ensures buffer { λ _. ⌜ now (out .exit) ≡ pieceBuffer (stateIn (now (state .entry))) (now (piece .entry)) (now (out .entry)) ⌝ }
 {
     assembly::take_piece(state, piece, out)
 }
@@ -29,10 +30,10 @@ pub extern "C" fn eos_take_piece(state: &mut [u32; 104], piece: &[u8], out: &mut
 // Asks for the message, the first bytes of the buffer: how many they are, once all bytes are in.
 #[no_mangle]
 pub extern "C" fn eos_message(state: &[u32; 104], out: &[u8], size: &mut usize) -> u32
-    ensures answer { λ r. ⌜ r ≡ askNumber (stateIn (now (state .entry))) (length (now (out .entry))) ⌝ }
-    ensures size { λ _. ⌜ now (size .exit) ≡ askedSize (stateIn (now (state .entry))) (length (now (out .entry))) (now (size .entry)) ⌝ }
+    ensures answer { λ r. ⌜ r ≡ messageNumber (stateIn (now (state .entry))) (length (now (out .entry))) ⌝ }
+    ensures size { λ _. ⌜ now (size .exit) ≡ messageSize (stateIn (now (state .entry))) (length (now (out .entry))) (now (size .entry)) ⌝ }
 {
-    let a = assembly::asked(state, out.len());
+    let a = assembly::message_answer(state, out.len());
     if a.number != 0 {
         return a.number;
     }

@@ -1,8 +1,9 @@
 // Credits and error replies, for C: what a call makes is stored where the caller says.
 ghost use mathlib.Core.Path.{_≡_};
 ghost use lib.ListN.{length};
-ghost use Rattle.wire.specs.Answers.{unlessRefused};
-ghost use Rattle.reply.specs.Reply.{grantAnswer, errorReplyAnswer, errorReplyInto};
+ghost use Rattle.answers.specs.Answers.{unlessRefused};
+ghost use Rattle.credit.specs.Credit.{grantAnswer};
+ghost use Rattle.error_reply.specs.Reply.{errorReplyAnswer, errorReplyBuffer};
 
 // The credits to grant to one who asks.
 #[no_mangle]
@@ -10,7 +11,7 @@ pub extern "C" fn eos_grant(asked: u32, limit: u32, credit: &mut u32) -> u32
     ensures answer { λ r. ⌜ r ≡ grantAnswer asked limit .number ⌝ }
     ensures credit { λ _. ⌜ now (credit .exit) ≡ unlessRefused (grantAnswer asked limit .number) (grantAnswer asked limit .credit) (now (credit .entry)) ⌝ }
 {
-    let a = reply::grant(asked, limit);
+    let a = credit::grant(asked, limit);
     if a.number != 0 {
         return a.number;
     }
@@ -29,9 +30,9 @@ pub extern "C" fn eos_error_reply(
 ) -> u32
     ensures answer { λ r. ⌜ r ≡ errorReplyAnswer (now (frame .entry)) number limit (length (now (out .entry))) .number ⌝ }
     ensures size { λ _. ⌜ now (size .exit) ≡ unlessRefused (errorReplyAnswer (now (frame .entry)) number limit (length (now (out .entry))) .number) (errorReplyAnswer (now (frame .entry)) number limit (length (now (out .entry))) .length) (now (size .entry)) ⌝ }
-    ensures buffer { λ _. ⌜ now (out .exit) ≡ errorReplyInto (now (frame .entry)) number limit (now (out .entry)) ⌝ }
+    ensures buffer { λ _. ⌜ now (out .exit) ≡ errorReplyBuffer (now (frame .entry)) number limit (now (out .entry)) ⌝ }
 {
-    let a = reply::error_reply(frame, number, limit, out);
+    let a = error_reply::error_reply(frame, number, limit, out);
     if a.number != 0 {
         return a.number;
     }

@@ -5,10 +5,12 @@ use mathlib.Core.List.{List, [], _∷_}
 use lib.ListN.{getD}
 use lib.Dec.{leb, eqb}
 use Rattle.wire.specs.Words.{flagNumber}
-use Rattle.wire.specs.declared.WriteAnswer.{WriteAnswer}
-use Rattle.setup.specs.Setup.{writeSetupAnswer, writtenSetup, agreement, noAgreement}
+use Rattle.answers.specs.declared.WriteAnswer.{WriteAnswer}
+use Rattle.setup.specs.Setup.{writeSetupAnswer, writeSetupBuffer, agreement, noAgreement}
 use Rattle.setup.specs.declared.Setup.{Setup}
 use Rattle.setup.specs.declared.Agreement.{Agreement}
+use Rattle.setup.specs.declared.SetupAnswer.{SetupAnswer}
+use mathlib.Core.Path.{_≡_}
 
 -- Which word is which.
 abbrev pub flagAt : ℕ
@@ -34,15 +36,15 @@ abbrev pub flagFits : List ℕ → Bool
 flagFits w = leb (getD w flagAt 0) 1
 
 -- What writing the setup data that words hold answers, and the buffer behind it.
-unfoldable pub lentSetup : List ℕ → ℕ → WriteAnswer
-lentSetup w room = cond (flagFits w) (writeSetupAnswer (setupIn w) room) (record { number = 20; length = 0 })
+unfoldable pub writeSetupWordsAnswer : List ℕ → ℕ → WriteAnswer
+writeSetupWordsAnswer w room = cond (flagFits w) (writeSetupAnswer (setupIn w) room) (record { number = 20; length = 0 })
 
-unfoldable pub lentSetupBuffer : List ℕ → List ℕ → List ℕ
-lentSetupBuffer w out = cond (flagFits w) (writtenSetup (setupIn w) out) out
+unfoldable pub writeSetupWordsBuffer : List ℕ → List ℕ → List ℕ
+writeSetupWordsBuffer w out = cond (flagFits w) (writeSetupBuffer (setupIn w) out) out
 
 -- What follows from the setup data that words hold.
-unfoldable pub lentAgreement : List ℕ → List ℕ → Agreement
-lentAgreement client server = cond (flagFits client && flagFits server) (agreement (setupIn client) (setupIn server)) noAgreement
+unfoldable pub agreeWordsAnswer : List ℕ → List ℕ → Agreement
+agreeWordsAnswer client server = cond (flagFits client && flagFits server) (agreement (setupIn client) (setupIn server)) noAgreement
 
 -- The words of what holds between two sides: client to server, server to client, the flag.
 abbrev pub toServerAt : ℕ
@@ -56,3 +58,12 @@ bothFlagAt = 2
 
 unfoldable pub agreementWords : Agreement → List ℕ
 agreementWords a = a .«client_to_server» .0 ∷ a .«server_to_client» .0 ∷ flagNumber (a .«remote_invalidation») ∷ []
+
+-- Whether there is setup data, as the word that `eos_read_setup` stores.
+abbrev pub presentWord : SetupAnswer → ℕ
+presentWord a = flagNumber (a .present)
+
+-- What `eos_read_setup` stores: these words, and 1 for setup data that is there.
+pub record Stores (w : List ℕ) (a : SetupAnswer) : Type 0 where
+  pub words : setupWords (a .setup) ≡ w
+  pub there : presentWord a ≡ 1

@@ -34,7 +34,7 @@ fn copy_front(out: &mut [u8], src: &[u8])
     let n = src.len();
     let mut i = 0;
     while i < n {
-        let m = wire::least(n - i, BLOCK_BYTES);
+        let m = wire::smaller(n - i, BLOCK_BYTES);
         let e = i + m;
         copy_block(&mut out[i..], &src[i..e]);
         i = e;

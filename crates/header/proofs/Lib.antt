@@ -1,5 +1,6 @@
+pub mod Limits
+pub mod Bytes
 pub mod Words
-pub mod Walks
-pub mod Lies
-pub mod Ends
-pub mod HeaderWords
+pub mod Allowed
+pub mod Contents
+pub mod Representable

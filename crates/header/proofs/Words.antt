@@ -14,18 +14,16 @@ use mir.Val.{Val}
 use denote.Shadow.{shadow}
 use borrow.Author.Needs.{needs}
 use Rattle.wire.specs.Wire.{stored}
-use Rattle.wire.proofs.Laws.{then, stored-front, flag-fits, flag-back}
+use Rattle.wire.proofs.Fields.{then, stored-front, flag-fits, flag-back}
 use Rattle.wire.proofs.Segment as segment
 use Rattle.wire.proofs.ReadSegment as read-segment
-use Rattle.lists.proofs.ReadList as read-list
-use Rattle.lists.proofs.WriteList as write-list
-use Rattle.lists.proofs.ReplyChunk as reply-chunk
+use Rattle.chunk_lists.proofs.ReadList as read-list
+use Rattle.chunk_lists.proofs.WriteList as write-list
+use Rattle.chunk_lists.proofs.ReplyChunk as reply-chunk
 use Rattle.wire.specs.Words.{flagNumber}
-use Rattle.lists.specs.Parsed.{Parsed, refused, done}
-use Rattle.lists.specs.Words.{readsIn, readsWords, segmentsIn, segmentsWords}
-use Rattle.lists.proofs.Words.{length-reads-words, length-segments-words, reads-back, segments-back}
-use Rattle.header.specs.Content.{Content}
-use Rattle.header.specs.Words.{kindNumber, lowOf, highOf, kindIn, headerWords, headerAs, headerFound, headerIn, readNumber, readWords}
+use Rattle.chunk_lists.specs.Words.{readsIn, readsWords, segmentsIn, segmentsWords}
+use Rattle.chunk_lists.proofs.Words.{length-reads-words, length-segments-words, reads-back, segments-back}
+use Rattle.header.specs.Words.{kindNumber, lowOf, highOf, kindIn, headerWords, headerAs, headerFound, headerIn}
 use Rattle.header.specs.declared.Kind.{Kind}
 use Rattle.header.specs.declared.Kind.the-variants.{Msg, Nomsg, Error}
 use Rattle.header.specs.declared.ErrorKind.the-variants.{Version, Chunk}
@@ -46,11 +44,6 @@ no-numbers Msg f = (refl, refl)
 no-numbers Nomsg f = (refl, refl)
 no-numbers (Error (Version low high)) f = absurd (f low high refl)
 no-numbers (Error Chunk) f = (refl, refl)
-
--- A refused reading leaves the words as they were.
-pub read-refused : (p : Parsed Content) (w : List ℕ) → (readNumber p ≡ 0 → ⊥) → readWords p w ≡ w
-read-refused (refused n) w h = refl
-read-refused (done c t) w h = absurd (h refl)
 
 -- What stands behind the lists.
 abbrev numbers : Header → List ℕ

@@ -4,14 +4,13 @@ use mathlib.Core.Bool.{Bool, true, false}
 use mathlib.Core.List.{List, [], _∷_, _++_, map}
 use mathlib.Core.Option.{Option, none, some}
 use lib.ListN.{length, take, drop, replicate}
-use Rattle.wire.specs.Wire.{joined}
+use Rattle.wire.specs.Wire.{joined, zeroSegment, zeroReadSegment}
 use Rattle.wire.specs.declared.Segment.{Segment}
 use Rattle.wire.specs.declared.ReadSegment.{ReadSegment}
-use Rattle.wire.specs.Wire.{zeroSegment, zeroReadSegment}
-use Rattle.lists.specs.Lists.{mostReads, mostChunks, mostWrites, mostReplies}
-use Rattle.lists.specs.declared.ReadList.{ReadList}
-use Rattle.lists.specs.declared.WriteList.{WriteList}
-use Rattle.lists.specs.declared.ReplyChunk.{ReplyChunk}
+use Rattle.chunk_lists.specs.Lists.{maxReadSegments, maxWriteChunks, maxWriteSegments, maxReplySegments}
+use Rattle.chunk_lists.specs.declared.ReadList.{ReadList}
+use Rattle.chunk_lists.specs.declared.WriteList.{WriteList}
+use Rattle.chunk_lists.specs.declared.ReplyChunk.{ReplyChunk}
 use Rattle.header.specs.declared.Kind.{Kind}
 use Rattle.header.specs.declared.Kind.the-variants.{Msg}
 use Rattle.header.specs.declared.Header.{Header}
@@ -30,15 +29,15 @@ abbrev pub padded : {A : Type 0} → ℕ → A → List A → List A
 padded n empty l = l ++ replicate (n - length l) empty
 
 abbrev pub readListOf : List ReadSegment → ReadList
-readListOf l = record { segments = padded mostReads zeroReadSegment l; count = length l }
+readListOf l = record { segments = padded maxReadSegments zeroReadSegment l; count = length l }
 
 abbrev pub writeListOf : List (List Segment) → WriteList
 writeListOf cs =
-    record { segments = padded mostWrites zeroSegment (joined (λ c. c) cs); counts = padded mostChunks 0 (map length cs); chunks = length cs }
+    record { segments = padded maxWriteSegments zeroSegment (joined (λ c. c) cs); counts = padded maxWriteChunks 0 (map length cs); chunks = length cs }
 
 abbrev pub replyChunkOf : Option (List Segment) → ReplyChunk
-replyChunkOf none = record { segments = replicate mostReplies zeroSegment; count = 0; present = false }
-replyChunkOf (some l) = record { segments = padded mostReplies zeroSegment l; count = length l; present = true }
+replyChunkOf none = record { segments = replicate maxReplySegments zeroSegment; count = 0; present = false }
+replyChunkOf (some l) = record { segments = padded maxReplySegments zeroSegment l; count = length l; present = true }
 
 -- The struct that holds a content, its unused places zero.
 unfoldable pub headerOf : Content → Header

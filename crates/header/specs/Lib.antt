@@ -1,4 +1,5 @@
 pub mod Content
+pub mod Limits
+pub mod Bytes
 pub mod Words
-pub mod Frame
-pub mod Shape
+pub mod Fits

@@ -6,10 +6,8 @@ use mathlib.Core.Option.{Option, none, some}
 use lib.ListN.{getD, take, drop}
 use lib.Dec.{leb, eqb}
 use Rattle.wire.specs.Words.{flagNumber}
-use Rattle.lists.specs.Lists.{mostChunks}
-use Rattle.lists.specs.Parsed.{Parsed, refused, done}
-use Rattle.lists.specs.Words.{readsIn, readsWords, segmentsIn, segmentsWords}
-use Rattle.header.specs.Content.{Content, headerOf}
+use Rattle.chunk_lists.specs.Lists.{maxWriteChunks}
+use Rattle.chunk_lists.specs.Words.{readsIn, readsWords, segmentsIn, segmentsWords}
 use Rattle.header.specs.declared.Kind.{Kind}
 use Rattle.header.specs.declared.Kind.the-variants.{Msg, Nomsg, Error}
 use Rattle.header.specs.declared.ErrorKind.the-variants.{Version, Chunk}
@@ -92,11 +90,15 @@ kindIn kind low high =
     (cond (eqb kind 3) (Is (Error Chunk))
     No)))
 
+-- How many segments each write chunk has.
+abbrev pub countsIn : List ℕ → List ℕ
+countsIn w = take maxWriteChunks (drop writeCountsAt w)
+
 -- The header that words hold, its kind and presence known.
 abbrev pub headerAs : List ℕ → Kind → Bool → Header
 headerAs w kind present = record {
   reads = record { segments = readsIn w; count = getD w readCountAt 0 };
-  writes = record { segments = segmentsIn writesAt w; counts = take mostChunks (drop writeCountsAt w); chunks = getD w writeChunksAt 0 };
+  writes = record { segments = segmentsIn writesAt w; counts = countsIn w; chunks = getD w writeChunksAt 0 };
   reply = record { segments = segmentsIn replyAt w; count = getD w replyCountAt 0; present = present };
   kind = kind;
   xid = getD w xidAt 0;
@@ -111,13 +113,3 @@ headerFound w (Is kind) true = some (headerAs w kind (eqb (getD w replyPresentAt
 
 unfoldable pub headerIn : List ℕ → Option Header
 headerIn w = headerFound w (kindIn (getD w kindAt 0) (getD w lowAt 0) (getD w highAt 0)) (leb (getD w replyPresentAt 0) 1)
-
--- What reading answers to one who lends words.
-abbrev pub readNumber : Parsed Content → ℕ
-readNumber (refused n) = n
-readNumber (done c t) = 0
-
--- The words after reading: those of the header that was read. "An entry point with a single answer number gives it beside unchanged buffers": as they were where reading is refused.
-abbrev pub readWords : Parsed Content → List ℕ → List ℕ
-readWords (refused n) w = w
-readWords (done c t) w = headerWords (headerOf c)

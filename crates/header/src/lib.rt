@@ -1,48 +1,28 @@
-// The transport header of RPC-over-RDMA version 1, read from a frame. Public: Header and its parts, read_header, payload;
-// decode_header, which reads into lent words.
-use lists::ChunkStep;
-use lists::ListWalk;
-use lists::ReadList;
-use lists::ReplyChunk;
-use lists::WriteList;
+// The transport header of RPC-over-RDMA version 1: what it holds, and the words that hold it. Public: Header and its parts.
+use chunk_lists::ReadList;
+use chunk_lists::ReplyChunk;
+use chunk_lists::WriteList;
 use wire::ReadSegment;
 use wire::Segment;
-use wire::Word;
 ghost use mathlib.Core.Path.{_≡_};
-ghost use Prim.Native.Nat.{_≤_};
-ghost use mathlib.Core.Bool.{cond};
+ghost use mathlib.Core.List.{List};
 ghost use mathlib.Core.Option.{some};
-ghost use lib.ListN.{length, drop};
-ghost use lib.Dec.{eqb};
-ghost use Rattle.wire.specs.Wire.{wordAt};
-ghost use Rattle.header.specs.Frame.{readFrame, readAnswer, payloadOf, threeParts, errorBody};
-ghost use Rattle.header.specs.Content.{headerOf};
-ghost use Rattle.header.specs.Words.{kindNumber, lowOf, highOf, kindIn, headerIn, headerWords, readNumber, readWords};
-ghost use Rattle.header.specs.Shape.{errorShape, frameWalk, endedWalk, listRefusal, frameRefusal, bareContent};
+ghost use Prim.Native.Nat.{ℕ};
+ghost use lib.ListN.{length, take};
+ghost use Rattle.header.specs.Limits.{total, withinLimits};
+ghost use Rattle.header.specs.Content.{headerOf, nothing};
+ghost use Rattle.header.specs.Words.{kindNumber, lowOf, highOf, kindIn, countsIn, headerIn, headerWords};
 
-// "frame under 16 bytes"
-pub const SHORT_FRAME: u32 = 1;
-// "version is not 1"
-pub const OTHER_VERSION: u32 = 2;
-// "procedure is 2 or above 4"
-pub const OTHER_PROCEDURE: u32 = 3;
-// "procedure is 3"
-pub const DONE_REFUSED: u32 = 4;
-// "error code neither 1 nor 2"
-pub const OTHER_ERROR_CODE: u32 = 10;
-// "bytes behind a NOMSG or ERROR header"
-pub const BYTES_BEHIND: u32 = 11;
-
-// "Fixed words: xid, version (1), credit, procedure."
-pub const FIXED_BYTES: usize = 16;
-
+// "Fixed words: xid, version (1), credit, procedure.": where each stands, and how many bytes they take.
 pub const XID_AT: usize = 0;
 
-pub const VERSION_AT: usize = 4;
+pub const VERSION_AT: usize = XID_AT + wire::WORD_BYTES;
 
-pub const CREDIT_AT: usize = 8;
+pub const CREDIT_AT: usize = VERSION_AT + wire::WORD_BYTES;
 
-pub const PROCEDURE_AT: usize = 12;
+pub const PROCEDURE_AT: usize = CREDIT_AT + wire::WORD_BYTES;
+
+pub const FIXED_BYTES: usize = PROCEDURE_AT + wire::WORD_BYTES;
 
 pub const VERSION: u32 = 1;
 
@@ -56,22 +36,22 @@ pub const PROCEDURE_DONE: u32 = 3;
 pub const PROCEDURE_ERROR: u32 = 4;
 
 // The fixed words and the marker that ends a read list.
-pub const EMPTY_READS_BYTES: usize = 20;
+pub const EMPTY_READS_BYTES: usize = FIXED_BYTES + wire::WORD_BYTES;
 
-// "1 (version) and then low and high, or 2 (chunk) and no more"
+// "a code word: 1 (version) and then low and high, or 2 (chunk) and no more"
 pub const CODE_VERSION: u32 = 1;
 
 pub const CODE_CHUNK: u32 = 2;
 
-pub const CODE_AT: usize = 16;
+pub const CODE_AT: usize = FIXED_BYTES;
 
-pub const LOW_AT: usize = 20;
+pub const LOW_AT: usize = CODE_AT + wire::WORD_BYTES;
 
-pub const HIGH_AT: usize = 24;
+pub const HIGH_AT: usize = LOW_AT + wire::WORD_BYTES;
 
-pub const VERSION_ERROR_BYTES: usize = 28;
+pub const VERSION_ERROR_BYTES: usize = HIGH_AT + wire::WORD_BYTES;
 
-pub const CHUNK_ERROR_BYTES: usize = 20;
+pub const CHUNK_ERROR_BYTES: usize = CODE_AT + wire::WORD_BYTES;
 
 // "Version(low, high) or Chunk"
 pub enum ErrorKind {
@@ -101,30 +81,30 @@ pub struct Header {
     pub credit: u32,
 }
 
-// A header as 238 words that a caller lends: where each part stands. The read list comes first.
-pub const WRITES_AT: usize = 96;
+// A header as 238 words that a caller lends: where each part stands. The read list comes first, a reserved word last.
+pub const WRITES_AT: usize = chunk_lists::MAX_READ_SEGMENTS * wire::READ_SEGMENT_WORDS;
 
-pub const REPLY_AT: usize = 160;
+pub const REPLY_AT: usize = WRITES_AT + chunk_lists::MAX_WRITE_SEGMENTS * wire::SEGMENT_WORDS;
 
-pub const WRITE_COUNTS_AT: usize = 224;
+pub const WRITE_COUNTS_AT: usize = REPLY_AT + chunk_lists::MAX_REPLY_SEGMENTS * wire::SEGMENT_WORDS;
 
-pub const READ_COUNT_AT: usize = 228;
+pub const READ_COUNT_AT: usize = WRITE_COUNTS_AT + chunk_lists::MAX_WRITE_CHUNKS;
 
-pub const WRITE_CHUNKS_AT: usize = 229;
+pub const WRITE_CHUNKS_AT: usize = READ_COUNT_AT + 1;
 
-pub const REPLY_PRESENT_AT: usize = 230;
+pub const REPLY_PRESENT_AT: usize = WRITE_CHUNKS_AT + 1;
 
-pub const REPLY_COUNT_AT: usize = 231;
+pub const REPLY_COUNT_AT: usize = REPLY_PRESENT_AT + 1;
 
-pub const KIND_WORD_AT: usize = 232;
+pub const KIND_WORD_AT: usize = REPLY_COUNT_AT + 1;
 
-pub const LOW_WORD_AT: usize = 233;
+pub const LOW_WORD_AT: usize = KIND_WORD_AT + 1;
 
-pub const HIGH_WORD_AT: usize = 234;
+pub const HIGH_WORD_AT: usize = LOW_WORD_AT + 1;
 
-pub const XID_WORD_AT: usize = 235;
+pub const XID_WORD_AT: usize = HIGH_WORD_AT + 1;
 
-pub const CREDIT_WORD_AT: usize = 236;
+pub const CREDIT_WORD_AT: usize = XID_WORD_AT + 1;
 
 // A kind as a number, where a caller lends it.
 pub const KIND_MSG: u32 = 0;
@@ -134,26 +114,6 @@ pub const KIND_NOMSG: u32 = 1;
 pub const KIND_VERSION_ERROR: u32 = 2;
 
 pub const KIND_CHUNK_ERROR: u32 = 3;
-
-pub struct ReadAnswer {
-    pub header: Header,
-    pub number: u32,
-}
-
-// A frame that was checked: how many entries its lists have, and where its header ends.
-pub struct Shape {
-    pub kind: Kind,
-    pub reads: usize,
-    pub chunks: usize,
-    pub present: bool,
-    pub replies: usize,
-    pub end: usize,
-}
-
-pub enum FrameWalk {
-    Found(Shape),
-    Refused(u32),
-}
 
 // The kind that a number names; low and high count for a version error alone.
 pub fn kind_in(number: u32, low: u32, high: u32) -> Known
@@ -166,114 +126,6 @@ pub fn kind_in(number: u32, low: u32, high: u32) -> Known
         KIND_CHUNK_ERROR => Known::Is(Kind::Error(ErrorKind::Chunk)),
         _ => Known::No,
     }
-}
-
-// The number of a list that was refused.
-fn list_refusal(w: ListWalk) -> u32
-    ensures { λ r. ⌜ r ≡ listRefusal w ⌝ }
-{
-    match w {
-        ListWalk::Refused(number) => number,
-        ListWalk::Done(_, _) => 0,
-    }
-}
-
-// Checks the three parts behind the fixed words.
-fn walk_lists(s: &[u8], kind: Kind) -> FrameWalk
-    requires { ⌜ 16 ≤ length (now s) ⌝ }
-    ensures { λ r. ⌜ r ≡ frameWalk (length (now (s .entry))) (threeParts kind (wordAt (now (s .entry)) 0) (wordAt (now (s .entry)) 8) (drop 16 (now (s .entry)))) ⌝ }
-{
-    let reads = lists::walk_reads(&s[FIXED_BYTES..]);
-    let ListWalk::Done(n, behind_reads) = reads else {
-        return FrameWalk::Refused(list_refusal(reads));
-    };
-    let w = s.len() - behind_reads;
-    let writes = lists::walk_writes(&s[w..]);
-    let ListWalk::Done(chunks, behind_writes) = writes else {
-        return FrameWalk::Refused(list_refusal(writes));
-    };
-    let p = s.len() - behind_writes;
-    let reply = lists::chunk_step(&s[p..], 1, lists::REPLY_SEGMENTS);
-    match reply {
-        ChunkStep::Refused(number) => FrameWalk::Refused(number),
-        ChunkStep::End => FrameWalk::Found(Shape {
-            kind,
-            reads: n,
-            chunks,
-            present: false,
-            replies: 0,
-            end: p + wire::WORD_BYTES,
-        }),
-        ChunkStep::Chunk(m) => FrameWalk::Found(Shape {
-            kind,
-            reads: n,
-            chunks,
-            present: true,
-            replies: m,
-            end: p + lists::CHUNK_HEAD_BYTES + m * wire::SEGMENT_BYTES,
-        }),
-    }
-}
-
-// An ERROR header has no lists.
-fn error_shape(kind: ErrorKind, end: usize) -> FrameWalk
-    ensures { λ r. ⌜ r ≡ FrameWalk.Found (errorShape kind end) ⌝ }
-{
-    FrameWalk::Found(Shape {
-        kind: Kind::Error(kind),
-        reads: 0,
-        chunks: 0,
-        present: false,
-        replies: 0,
-        end,
-    })
-}
-
-// Checks what stands behind the fixed words of an ERROR header.
-fn walk_error(s: &[u8]) -> FrameWalk
-    requires { ⌜ 16 ≤ length (now s) ⌝ }
-    ensures { λ r. ⌜ r ≡ frameWalk (length (now (s .entry))) (errorBody (wordAt (now (s .entry)) 0) (wordAt (now (s .entry)) 8) (drop 16 (now (s .entry)))) ⌝ }
-{
-    let word = wire::first_word(&s[FIXED_BYTES..]);
-    let Word::Value(code) = word else {
-        return FrameWalk::Refused(wire::refusal(word));
-    };
-    if code == CODE_VERSION {
-        if s.len() < VERSION_ERROR_BYTES {
-            return FrameWalk::Refused(wire::ENDS_INSIDE_FIELD);
-        }
-        return error_shape(
-            ErrorKind::Version(wire::word_at(s, LOW_AT), wire::word_at(s, HIGH_AT)),
-            VERSION_ERROR_BYTES,
-        );
-    }
-    if code == CODE_CHUNK {
-        return error_shape(ErrorKind::Chunk, CHUNK_ERROR_BYTES);
-    }
-    FrameWalk::Refused(OTHER_ERROR_CODE)
-}
-
-// Refuses bytes behind the header.
-fn ended(walk: FrameWalk, size: usize) -> FrameWalk
-    ensures { λ r. ⌜ r ≡ endedWalk size walk ⌝ }
-{
-    let FrameWalk::Found(shape) = walk else {
-        return walk;
-    };
-    if shape.end != size {
-        return FrameWalk::Refused(BYTES_BEHIND);
-    }
-    walk
-}
-
-// The kind of a header with lists.
-fn lists_kind(procedure: u32) -> Kind
-    ensures { λ r. ⌜ r ≡ cond (eqb procedure 0) Kind.Msg Kind.Nomsg ⌝ }
-{
-    if procedure == PROCEDURE_MSG {
-        return Kind::Msg;
-    }
-    Kind::Nomsg
 }
 
 // A kind as a number.
@@ -291,7 +143,7 @@ pub fn kind_number(kind: Kind) -> u32
 }
 
 // The two numbers of a version error; zero for any other kind.
-fn low_of(kind: Kind) -> u32
+pub fn low_of(kind: Kind) -> u32
     ensures { λ r. ⌜ r ≡ lowOf kind ⌝ }
 {
     match kind {
@@ -304,7 +156,7 @@ fn low_of(kind: Kind) -> u32
     }
 }
 
-fn high_of(kind: Kind) -> u32
+pub fn high_of(kind: Kind) -> u32
     ensures { λ r. ⌜ r ≡ highOf kind ⌝ }
 {
     match kind {
@@ -317,40 +169,46 @@ fn high_of(kind: Kind) -> u32
     }
 }
 
-// Checks a frame.
-pub fn walk_frame(s: &[u8]) -> FrameWalk
-    ensures { λ r. ⌜ r ≡ frameWalk (length (now (s .entry))) (readFrame (now (s .entry))) ⌝ }
+// The segments of the first n chunks, of four at most, in 64 bits, so that no counts wrap.
+pub fn total_count(words: &[u32], n: usize) -> usize
+    requires { ⌜ length (now words) ≡ 238 ⌝ }
+    ensures { λ r. ⌜ r ≡ total (take n (countsIn (now (words .entry)))) ⌝ }
 {
-    let size = s.len();
-    if size < FIXED_BYTES {
-        return FrameWalk::Refused(SHORT_FRAME);
+    let mut sum = 0;
+    for k in 0..wire::smaller(n, chunk_lists::MAX_WRITE_CHUNKS) {
+        sum += words[WRITE_COUNTS_AT + k] as usize;
     }
-    if wire::word_at(s, VERSION_AT) != VERSION {
-        return FrameWalk::Refused(OTHER_VERSION);
-    }
-    let procedure = wire::word_at(s, PROCEDURE_AT);
-    // Asked before the tests: behind them the compiler would take the word byte by byte.
-    let kind = lists_kind(procedure);
-    if procedure == PROCEDURE_DONE {
-        return FrameWalk::Refused(DONE_REFUSED);
-    }
-    if procedure == PROCEDURE_ERROR {
-        return ended(walk_error(s), size);
-    }
-    if PROCEDURE_NOMSG < procedure {
-        return FrameWalk::Refused(OTHER_PROCEDURE);
-    }
-    // The one place that walks the lists, for both kinds: the walk is then compiled in place.
-    let walk = walk_lists(s, kind);
-    if procedure == PROCEDURE_MSG {
-        return walk;
-    }
-    ended(walk, size)
+    sum
 }
 
-// A header whose lists are empty.
-fn bare(kind: Kind, xid: u32, credit: u32, present: bool) -> Header
-    ensures { λ r. ⌜ r ≡ headerOf (bareContent kind xid credit present) ⌝ }
+// Whether the counts of a header are within its limits; `segments` is the sum of those of its write chunks.
+pub fn within_limits(
+    reads: usize,
+    chunks: usize,
+    segments: usize,
+    present: bool,
+    replies: usize,
+) -> bool
+    ensures { λ r. ⌜ ((counts : List ℕ) → segments ≡ total (take chunks counts) → r ≡ withinLimits reads chunks counts present replies) ⌝ }
+{
+    if chunk_lists::MAX_READ_SEGMENTS < reads {
+        return false;
+    }
+    if chunk_lists::MAX_WRITE_CHUNKS < chunks {
+        return false;
+    }
+    if chunk_lists::MAX_WRITE_SEGMENTS < segments {
+        return false;
+    }
+    if present {
+        return replies <= chunk_lists::MAX_REPLY_SEGMENTS;
+    }
+    replies == 0
+}
+
+// An all-zero header of kind MSG without a reply chunk.
+fn nothing() -> Header
+    ensures { λ r. ⌜ r ≡ headerOf nothing ⌝ }
 {
     let z = Segment {
         handle: 0,
@@ -374,54 +232,12 @@ fn bare(kind: Kind, xid: u32, credit: u32, present: bool) -> Header
         reply: ReplyChunk {
             segments: [z; 16],
             count: 0,
-            present,
+            present: false,
         },
-        kind,
-        xid,
-        credit,
+        kind: Kind::Msg,
+        xid: 0,
+        credit: 0,
     }
-}
-
-// The number of a frame that was refused.
-pub fn frame_refusal(w: FrameWalk) -> u32
-    ensures { λ r. ⌜ r ≡ frameRefusal w ⌝ }
-{
-    match w {
-        FrameWalk::Refused(number) => number,
-        FrameWalk::Found(_) => 0,
-    }
-}
-
-// Decodes the header of a frame into the words that the caller lends. A frame that is refused leaves them as they were.
-pub fn decode_header(s: &[u8], words: &mut [u32; 238]) -> u32
-    ensures answer { λ r. ⌜ r ≡ readNumber (readFrame (now (s .entry))) ⌝ }
-    ensures words { λ _. ⌜ now (words .exit) ≡ readWords (readFrame (now (s .entry))) (now (words .entry)) ⌝ }
-{
-    let walk = walk_frame(s);
-    let FrameWalk::Found(shape) = walk else {
-        return frame_refusal(walk);
-    };
-    let kind = shape.kind;
-    let n = shape.reads;
-    let chunks = shape.chunks;
-    let m = shape.replies;
-    *words = [0u32; 238];
-    // The numbers before the lists, whose loops then have none of them to keep.
-    words[KIND_WORD_AT] = kind_number(kind);
-    words[LOW_WORD_AT] = low_of(kind);
-    words[HIGH_WORD_AT] = high_of(kind);
-    words[READ_COUNT_AT] = n as u32;
-    words[WRITE_CHUNKS_AT] = chunks as u32;
-    words[REPLY_PRESENT_AT] = wire::flag_number(shape.present);
-    words[REPLY_COUNT_AT] = m as u32;
-    words[XID_WORD_AT] = wire::word_at(s, XID_AT);
-    words[CREDIT_WORD_AT] = wire::word_at(s, CREDIT_AT);
-    let w = EMPTY_READS_BYTES + n * lists::MARKED_ENTRY_BYTES;
-    let p = shape.end - m * wire::SEGMENT_BYTES;
-    lists::decode_reads(&s[FIXED_BYTES..], n, &mut words[..]);
-    lists::decode_writes(&s[w..], chunks, &mut words[..], WRITES_AT, WRITE_COUNTS_AT);
-    lists::decode_segments(s, p, m, &mut words[..], REPLY_AT);
-    0
 }
 
 // The header that words hold. (Words that hold none, for a kind that no number names, give an empty one.)
@@ -430,15 +246,15 @@ pub fn header_of(words: &[u32; 238]) -> Header
 {
     let known = kind_in(words[KIND_WORD_AT], words[LOW_WORD_AT], words[HIGH_WORD_AT]);
     let Known::Is(kind) = known else {
-        return bare(Kind::Msg, 0, 0, false);
+        return nothing();
     };
     Header {
         reads: ReadList {
-            segments: lists::reads_of(words),
+            segments: chunk_lists::read_list_in(words),
             count: words[READ_COUNT_AT],
         },
         writes: WriteList {
-            segments: lists::segments_of(words, WRITES_AT),
+            segments: chunk_lists::segments_in(words, WRITES_AT),
             counts: [
                 words[WRITE_COUNTS_AT],
                 words[WRITE_COUNTS_AT + 1],
@@ -448,7 +264,7 @@ pub fn header_of(words: &[u32; 238]) -> Header
             chunks: words[WRITE_CHUNKS_AT],
         },
         reply: ReplyChunk {
-            segments: lists::segments_of(words, REPLY_AT),
+            segments: chunk_lists::segments_in(words, REPLY_AT),
             count: words[REPLY_COUNT_AT],
             present: words[REPLY_PRESENT_AT] == 1,
         },
@@ -456,30 +272,6 @@ pub fn header_of(words: &[u32; 238]) -> Header
         xid: words[XID_WORD_AT],
         credit: words[CREDIT_WORD_AT],
     }
-}
-
-// Reads the header of a frame.
-pub fn read_header(s: &[u8]) -> ReadAnswer
-    ensures { λ r. ⌜ r ≡ readAnswer (readFrame (now (s .entry))) ⌝ }
-{
-    let mut words = [0u32; 238];
-    let number = decode_header(s, &mut words);
-    ReadAnswer {
-        header: header_of(&words),
-        number,
-    }
-}
-
-// The inline payload of a frame: what stands behind the header of an accepted MSG.
-pub fn payload(s: &[u8]) -> &[u8]
-    ensures { λ r. ⌜ now r ≡ payloadOf (readFrame (now (s .entry))) ⌝ }
-{
-    let walk = walk_frame(s);
-    let FrameWalk::Found(shape) = walk else {
-        return &s[0..0];
-    };
-    let from = shape.end;
-    &s[from..]
 }
 
 // The words of a header.
@@ -495,9 +287,9 @@ pub fn words_of(h: Header) -> [u32; 238]
     let counts = writes.counts;
     let replies = reply.segments;
     let mut words = [0u32; 238];
-    lists::store_reads(&mut words, entries);
-    lists::store_segments(&mut words, WRITES_AT, chunks);
-    lists::store_segments(&mut words, REPLY_AT, replies);
+    chunk_lists::store_read_list(&mut words, entries);
+    chunk_lists::store_segments(&mut words, WRITES_AT, chunks);
+    chunk_lists::store_segments(&mut words, REPLY_AT, replies);
     words[WRITE_COUNTS_AT] = counts[0];
     words[WRITE_COUNTS_AT + 1] = counts[1];
     words[WRITE_COUNTS_AT + 2] = counts[2];

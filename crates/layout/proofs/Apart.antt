@@ -7,7 +7,7 @@ use Prim.Native.Nat.{ℕ, zero, suc, _+_, _≤_, _<_}
 use native.Mathlib.Omega.{arith}
 use lib.ListN.{length, set}
 use lib.Seq.{set-comm}
-use Rattle.layout.specs.Places.{from, put}
+use Rattle.layout.specs.Places.{from, scatter}
 
 -- A place that is none of the others, places of which none is among the others, places below n and not below it.
 unfoldable pub Avoids : ℕ → List ℕ → Type 0
@@ -31,17 +31,17 @@ unfolding Below
 below-append n [] qs h k = k
 below-append n (p ∷ ps) qs h k = (h .0, below-append n ps qs (h .1) k)
 
-put-set : (ps v b : List ℕ) (q x : ℕ) → Avoids q ps → put ps v (set b q x) ≡ set (put ps v b) q x
-unfolding put Avoids
-put-set [] v b q x h = refl
-put-set (p ∷ ps) [] b q x h = refl
-put-set (p ∷ ps) (y ∷ v) b q x h = rw (set-comm b q p x y (h .0)) (put-set ps v (set b p y) q x (h .1))
+scatter-set : (ps v b : List ℕ) (q x : ℕ) → Avoids q ps → scatter ps v (set b q x) ≡ set (scatter ps v b) q x
+unfolding scatter Avoids
+scatter-set [] v b q x h = refl
+scatter-set (p ∷ ps) [] b q x h = refl
+scatter-set (p ∷ ps) (y ∷ v) b q x h = rw (set-comm b q p x y (h .0)) (scatter-set ps v (set b p y) q x (h .1))
 
-pub put-comm : (ps qs v w b : List ℕ) → Apart ps qs → put qs w (put ps v b) ≡ put ps v (put qs w b)
-unfolding put Apart
-put-comm [] qs v w b h = refl
-put-comm (p ∷ ps) qs [] w b h = refl
-put-comm (p ∷ ps) qs (x ∷ v) w b h = rw (put-comm ps qs v w (set b p x) (h .1), put-set qs w b p x (h .0))
+pub scatter-comm : (ps qs v w b : List ℕ) → Apart ps qs → scatter qs w (scatter ps v b) ≡ scatter ps v (scatter qs w b)
+unfolding scatter Apart
+scatter-comm [] qs v w b h = refl
+scatter-comm (p ∷ ps) qs [] w b h = refl
+scatter-comm (p ∷ ps) qs (x ∷ v) w b h = rw (scatter-comm ps qs v w (set b p x) (h .1), scatter-set qs w b p x (h .0))
 
 pub avoids-above : (p n : ℕ) (qs : List ℕ) → p < n → NotBelow n qs → Avoids p qs
 unfolding Avoids NotBelow
@@ -99,9 +99,9 @@ apart-sym [] qs h = apart-nil qs
 apart-sym (p ∷ ps) qs h = avoids-apart p qs ps (h .0) (apart-sym ps qs (h .1))
 
 -- Two writings, one behind the other, as one.
-pub put-join : (ps qs v w b : List ℕ) → length v ≡ length ps → put qs w (put ps v b) ≡ put (ps ++ qs) (v ++ w) b
-unfolding put
-put-join [] qs [] w b e = refl
-put-join [] qs (x ∷ v) w b e = absurd (omega arith)
-put-join (p ∷ ps) qs [] w b e = absurd (omega arith)
-put-join (p ∷ ps) qs (x ∷ v) w b e = put-join ps qs v w (set b p x) (omega arith)
+pub scatter-join : (ps qs v w b : List ℕ) → length v ≡ length ps → scatter qs w (scatter ps v b) ≡ scatter (ps ++ qs) (v ++ w) b
+unfolding scatter
+scatter-join [] qs [] w b e = refl
+scatter-join [] qs (x ∷ v) w b e = absurd (omega arith)
+scatter-join (p ∷ ps) qs [] w b e = absurd (omega arith)
+scatter-join (p ∷ ps) qs (x ∷ v) w b e = scatter-join ps qs v w (set b p x) (omega arith)

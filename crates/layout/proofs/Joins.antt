@@ -9,7 +9,8 @@ use native.Mathlib.Omega.{arith}
 use lib.Dec.{ltb, eqb}
 use borrow.Author.Tests.{ltb-true, ltb-false, eqb-true, eqb-false, lt-ltb, le-ltb, eq-eqb, ne-eqb}
 use Rattle.layout.specs.Layout.{run, joinChunk}
-use Rattle.layout.specs.Walks.{totalLength, Above}
+use Rattle.layout.specs.Internal.Walks.{totalLength}
+use Rattle.layout.proofs.Remaining.{Above}
 use Rattle.layout.specs.declared.Run.{Run}
 
 -- How two numbers lie.

@@ -1,9 +1,11 @@
+pub mod Remaining
 pub mod Joins
 pub mod Summing
-pub mod Remaining
-pub mod Stood
-pub mod Putting
-pub mod Seeking
+pub mod ChunkWalk
+pub mod ChunksStand
+pub mod Scatter
+pub mod RunWalk
 pub mod Placed
 pub mod Apart
 pub mod Once
+pub mod Passed

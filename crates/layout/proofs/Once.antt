@@ -14,7 +14,7 @@ use Rattle.header.specs.declared.Kind.{Kind}
 use Rattle.header.specs.declared.Kind.the-variants.{Msg, Nomsg, Error}
 use Rattle.layout.specs.Layout.{roundedUp, roundedTotal, stands, places, gaps, paddings, basePlaces, paddingPlaces, pulledPlaces, messageLength}
 use Rattle.layout.specs.declared.Run.{Run}
-use Rattle.layout.proofs.Stood.{rounded-most}
+use Rattle.layout.proofs.ChunksStand.{rounded-most}
 use Rattle.layout.proofs.Placed.{Placed, all-placed}
 use Rattle.layout.proofs.Apart.{Avoids, Apart}
 use Rattle.layout.specs.Once.{times, Once}

@@ -8,10 +8,10 @@ use native.Mathlib.Omega.{arith}
 use lib.ListN.{length, length-append}
 use lib.Dec.{leb}
 use borrow.Author.Tests.{leb-true}
-use Rattle.wire.proofs.Laws.{both-hold}
+use Rattle.answers.proofs.Checks.{both-hold}
 use Rattle.layout.specs.Layout.{roundedUp, roundedTotal, stands, places, gaps, basePlaces, messageLength}
 use Rattle.layout.specs.declared.Run.{Run}
-use Rattle.layout.proofs.Putting.{length-from}
+use Rattle.layout.proofs.Scatter.{length-from}
 
 -- What `stands` says, as facts: a chunk stands at or behind `end`, and at or before `most`, where the base would end if no chunk came any more.
 unfoldable pub Placed : ℕ → ℕ → List Run → Type 0

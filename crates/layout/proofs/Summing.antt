@@ -14,7 +14,7 @@ use borrow.Author.Tests.{eq-eqb, ne-eqb}
 use Rattle.wire.specs.Wire.{zeroReadSegment}
 use Rattle.wire.specs.declared.ReadSegment.{ReadSegment}
 use Rattle.layout.specs.Layout.{joinChunk, anyAtZero, zeroLength, otherChunks}
-use Rattle.layout.specs.Walks.{totalLength, readLength, sumsOf, sumsWith}
+use Rattle.layout.specs.Internal.Walks.{totalLength, readLength, sumsOf, sumsWith}
 use Rattle.layout.specs.declared.Sums.{Sums}
 use Rattle.layout.proofs.Joins.{total-join}
 

@@ -1,4 +1,4 @@
 pub mod Places
 pub mod Layout
 pub mod Once
-pub mod Walks
+pub mod Internal

@@ -9,7 +9,7 @@ from k zero = []
 from k (suc n) = k ∷ from (suc k) n
 
 -- A buffer with the first byte of v at the first of the places, the second at the second, as far as both go.
-unfoldable pub put : List ℕ → List ℕ → List ℕ → List ℕ
-put [] v out = out
-put (k ∷ places) [] out = out
-put (k ∷ places) (x ∷ v) out = put places v (set out k x)
+unfoldable pub scatter : List ℕ → List ℕ → List ℕ → List ℕ
+scatter [] v out = out
+scatter (k ∷ places) [] out = out
+scatter (k ∷ places) (x ∷ v) out = scatter places v (set out k x)

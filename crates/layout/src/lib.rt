@@ -4,22 +4,17 @@ use header::Kind;
 use wire::ReadSegment;
 ghost use mathlib.Core.Path.{_≡_};
 ghost use mathlib.Core.Bool.{true};
+ghost use mathlib.Core.List.{List};
 ghost use Prim.Native.Nat.{_+_, _-_, _≤_, _<_};
 ghost use lib.ListN.{length, take};
-ghost use Rattle.lists.specs.Lists.{positionsNumber};
-ghost use Rattle.lists.specs.Words.{readsIn};
-ghost use Rattle.layout.specs.Layout.{otherChunks, roundedUp, kindFits};
-ghost use Rattle.layout.specs.Walks.{sumsWith, sumsOf, endedLength, joinedRun, Near, standingOf, measuredOf, measuredNumber};
-
-// "base length no multiple of 4"
-pub const BASE_UNALIGNED: u32 = 13;
-// "a chunk's position overlaps or lies past the base"
-pub const CHUNK_OVERLAPS: u32 = 14;
-// "message above 1,048,576 bytes"
-pub const MESSAGE_LONG: u32 = 15;
+ghost use Rattle.wire.specs.declared.ReadSegment.{ReadSegment};
+ghost use Rattle.chunk_lists.specs.Lists.{positionsNumber};
+ghost use Rattle.chunk_lists.specs.Words.{readsIn};
+ghost use Rattle.layout.specs.Layout.{zeroLength, baseLength, otherChunks, roundedUp, kindFits};
+ghost use Rattle.layout.specs.Internal.Walks.{sumsWith, sumsOf, endedLength, joinedRun, Near, chunkCheck, layoutCheck, layoutNumber};
 
 // "a message of at most 1,048,576 bytes"
-pub const LONGEST_MESSAGE: usize = 1048576;
+pub const MAX_MESSAGE_BYTES: usize = 1048576;
 
 // Positions and rounded lengths are multiples of this.
 pub const UNIT_BYTES: usize = 4;
@@ -38,13 +33,13 @@ pub struct Sums {
 }
 
 // The chunks stand, and their rounded lengths make so much together; or one of them does not.
-pub enum Standing {
+pub enum ChunkCheck {
     Stands(usize),
     Overlaps,
 }
 
 // The length of a message that passes the checks of a start, or the number of the one that it does not pass.
-pub enum Measured {
+pub enum LayoutCheck {
     Holds(usize),
     Refused(u32),
 }
@@ -104,7 +99,7 @@ pub fn sums_of(words: &[u32], n: usize) -> Sums
         all_length: 0,
     };
     for i in 0..n {
-        let x = lists::segment_of(words, i);
+        let x = chunk_lists::read_segment_of(words, i);
         s = add_sums(s, x);
     }
     s
@@ -114,7 +109,7 @@ pub fn sums_of(words: &[u32], n: usize) -> Sums
 // elsewhere than at position 0 that is a run of no bytes at 0.
 
 // How many bytes the chunk has that a segment ends; 0 if it ends none.
-pub fn ended(w: Run, x: ReadSegment) -> usize
+pub fn ended_length(w: Run, x: ReadSegment) -> usize
     ensures { λ r. ⌜ r ≡ endedLength w x ⌝ }
 {
     if w.at == wide(x.position) {
@@ -147,26 +142,37 @@ pub fn joined(w: Run, x: ReadSegment) -> Run
 }
 
 // Whether each chunk stands behind the former one and within the base.
-fn chunks_stand(words: &[u32], n: usize, base: usize) -> Standing
+fn check_chunks(words: &[u32], n: usize, base: usize) -> ChunkCheck
     requires { ⌜ (n ≤ 16) × (positionsNumber 0 (take n (readsIn (now words))) 0 ≡ 0) × (96 ≤ length (now words)) ⌝ }
-    ensures { λ r. ⌜ r ≡ standingOf base (otherChunks (take n (readsIn (now (words .entry))))) ⌝ }
+    ensures { λ r. ⌜ r ≡ chunkCheck base (otherChunks (take n (readsIn (now (words .entry))))) ⌝ }
 {
     let mut w = Run { at: 0, length: 0 };
     let mut earlier = 0;
     for i in 0..n {
-        let x = lists::segment_of(words, i);
+        let x = chunk_lists::read_segment_of(words, i);
         let position = wide(x.position);
-        let size = rounded(ended(w, x));
+        let size = rounded(ended_length(w, x));
         if position < w.at + size {
-            return Standing::Overlaps;
+            return ChunkCheck::Overlaps;
         }
         earlier += size;
         if base < position - earlier {
-            return Standing::Overlaps;
+            return ChunkCheck::Overlaps;
         }
         w = joined(w, x);
     }
-    Standing::Stands(earlier + rounded(w.length))
+    ChunkCheck::Stands(earlier + rounded(w.length))
+}
+
+// The base length of a frame: that of its inline bytes, or of its position-zero chunk.
+pub fn base_length(kind: Kind, inline: usize, zero: usize) -> usize
+    ensures { λ r. ⌜ ((reads : List ReadSegment) → zero ≡ zeroLength reads → r ≡ baseLength kind inline reads) ⌝ }
+{
+    match kind {
+        Kind::Msg => inline,
+        Kind::Nomsg => zero,
+        Kind::Error(_) => inline,
+    }
 }
 
 fn kind_fits(kind: Kind, any_zero: bool) -> bool
@@ -180,47 +186,47 @@ fn kind_fits(kind: Kind, any_zero: bool) -> bool
 }
 
 // The number of a check that was not passed; 0 if all were.
-pub fn measure_refusal(m: Measured) -> u32
-    ensures { λ r. ⌜ r ≡ measuredNumber m ⌝ }
+pub fn layout_refusal(m: LayoutCheck) -> u32
+    ensures { λ r. ⌜ r ≡ layoutNumber m ⌝ }
 {
     match m {
-        Measured::Holds(_) => 0,
-        Measured::Refused(number) => number,
+        LayoutCheck::Holds(_) => 0,
+        LayoutCheck::Refused(number) => number,
     }
 }
 
 // The checks of a start behind those of the reader, for a base of so many bytes and a buffer of `room`.
-pub fn measure(
+pub fn check_layout(
     kind: Kind,
     base: usize,
     any_zero: bool,
     words: &[u32],
     n: usize,
     room: usize,
-) -> Measured
+) -> LayoutCheck
     requires { ⌜ (n ≤ 16) × (positionsNumber 0 (take n (readsIn (now words))) 0 ≡ 0) × (96 ≤ length (now words)) ⌝ }
-    ensures { λ r. ⌜ r ≡ measuredOf kind base «any_zero» (otherChunks (take n (readsIn (now (words .entry))))) room ⌝ }
+    ensures { λ r. ⌜ r ≡ layoutCheck kind base «any_zero» (otherChunks (take n (readsIn (now (words .entry))))) room ⌝ }
 {
     if !kind_fits(kind, any_zero) {
-        return Measured::Refused(wire::KIND_AND_LISTS);
+        return LayoutCheck::Refused(answers::KIND_AND_LISTS);
     }
     if base % UNIT_BYTES != 0 {
-        return Measured::Refused(BASE_UNALIGNED);
+        return LayoutCheck::Refused(answers::BASE_UNALIGNED);
     }
-    let stood = chunks_stand(words, n, base);
-    let Standing::Stands(size) = stood else {
-        return Measured::Refused(CHUNK_OVERLAPS);
+    let stood = check_chunks(words, n, base);
+    let ChunkCheck::Stands(size) = stood else {
+        return LayoutCheck::Refused(answers::CHUNK_OVERLAPS);
     };
     // The base may be any number, and the chunks very long; the sum must not wrap.
-    if LONGEST_MESSAGE < base {
-        return Measured::Refused(MESSAGE_LONG);
+    if MAX_MESSAGE_BYTES < base {
+        return LayoutCheck::Refused(answers::MESSAGE_LONG);
     }
-    if LONGEST_MESSAGE - base < size {
-        return Measured::Refused(MESSAGE_LONG);
+    if MAX_MESSAGE_BYTES - base < size {
+        return LayoutCheck::Refused(answers::MESSAGE_LONG);
     }
     let message = base + size;
     if room < message {
-        return Measured::Refused(wire::BUFFER_SHORT);
+        return LayoutCheck::Refused(answers::BUFFER_SHORT);
     }
-    Measured::Holds(message)
+    LayoutCheck::Holds(message)
 }

@@ -5,8 +5,8 @@ use mathlib.Core.List.{List, [], _∷_, _++_}
 use lib.ListN.{length, getD}
 use lib.Dec.{leb, eqb}
 use Rattle.wire.specs.Wire.{wordAt, wordBytes}
-use Rattle.wire.specs.Answers.{check, roomNumber, writerAnswer, writerBuffer}
-use Rattle.wire.specs.declared.WriteAnswer.{WriteAnswer}
+use Rattle.answers.specs.Answers.{check, roomNumber, writerAnswer, writerBuffer}
+use Rattle.answers.specs.declared.WriteAnswer.{WriteAnswer}
 use Rattle.setup.specs.declared.Size.{Size}
 use Rattle.setup.specs.declared.Setup.{Setup}
 use Rattle.setup.specs.declared.SetupAnswer.{SetupAnswer}
@@ -39,15 +39,15 @@ readSetup s =
     (record { setup = noSetup; present = false; number = 0 })
 
 -- "from 1,024 to 262,144": "These two ends belong to the size's own type."
-abbrev pub smallestSize : ℕ
-smallestSize = 1024
+abbrev pub minSize : ℕ
+minSize = 1024
 
-abbrev pub largestSize : ℕ
-largestSize = 262144
+abbrev pub maxSize : ℕ
+maxSize = 262144
 
 -- "A size handed in is a multiple of 1,024 from 1,024 to 262,144"
 unfoldable pub inRule : Size → Bool
-inRule x = leb smallestSize (x .0) && (leb (x .0) largestSize && eqb (x .0 % 1024) 0)
+inRule x = leb minSize (x .0) && (leb (x .0) maxSize && eqb (x .0 % 1024) 0)
 
 -- Both sizes that one side hands in.
 unfoldable pub setupInRule : Setup → Bool
@@ -74,8 +74,8 @@ unfoldable pub writeSetupAnswer : Setup → ℕ → WriteAnswer
 writeSetupAnswer x room = writerAnswer (writeSetupNumber x room) (setupBytes x)
 
 -- The buffer after the call.
-unfoldable pub writtenSetup : Setup → List ℕ → List ℕ
-writtenSetup x out = writerBuffer (writeSetupNumber x (length out)) (setupBytes x) out
+unfoldable pub writeSetupBuffer : Setup → List ℕ → List ℕ
+writeSetupBuffer x out = writerBuffer (writeSetupNumber x (length out)) (setupBytes x) out
 
 -- "the smaller of .. and .."
 abbrev pub smallerSize : Size → Size → Size

@@ -1,12 +1,12 @@
 // The connection setup data (CM Private Data) of RFC 8797, read and written, and what follows from two of them.
 // Public: Size and its ends, Setup, SetupAnswer, Agreement, read_setup, write_setup, agree.
-use wire::WriteAnswer;
+use answers::WriteAnswer;
 ghost use mathlib.Core.Path.{_≡_};
 ghost use mathlib.Core.Bool.{true, _&&_};
 ghost use Prim.Native.Nat.{_≤_};
 ghost use lib.ListN.{length};
 ghost use Rattle.wire.specs.Wire.{stored};
-ghost use Rattle.setup.specs.Setup.{sizeOf, inRule, sizeByte, smallerSize, isSetup, readSetup, flagsOf, setupBytes, setupInRule, writeSetupAnswer, writtenSetup, noAgreement, agreement};
+ghost use Rattle.setup.specs.Setup.{sizeOf, inRule, sizeByte, smallerSize, isSetup, readSetup, flagsOf, setupBytes, setupInRule, writeSetupAnswer, writeSetupBuffer, noAgreement, agreement};
 
 // "identifier f6ab0e18; version byte 1; a flags byte ..; send size; receive size"
 const IDENTIFIER: u32 = 0xf6ab0e18;
@@ -33,9 +33,9 @@ pub struct Size(pub u32);
 
 impl Size {
     // "a multiple of 1,024 from 1,024 to 262,144"
-    pub const SMALLEST: u32 = 1024;
+    pub const MIN: u32 = 1024;
 
-    pub const LARGEST: u32 = 262144;
+    pub const MAX: u32 = 262144;
 
     const UNIT: u32 = 1024;
 
@@ -50,10 +50,10 @@ impl Size {
     fn in_rule(self) -> bool
         ensures { λ r. ⌜ r ≡ inRule self ⌝ }
     {
-        if self.0 < Size::SMALLEST {
+        if self.0 < Size::MIN {
             return false;
         }
-        if Size::LARGEST < self.0 {
+        if Size::MAX < self.0 {
             return false;
         }
         self.0 % Size::UNIT == 0
@@ -120,8 +120,8 @@ pub fn read_setup(bytes: &[u8]) -> SetupAnswer
         return SetupAnswer {
             setup: Setup {
                 remote_invalidation: false,
-                send: Size(Size::SMALLEST),
-                receive: Size(Size::SMALLEST),
+                send: Size(Size::MIN),
+                receive: Size(Size::MIN),
             },
             present: false,
             number: 0,
@@ -161,7 +161,7 @@ fn flags_of(invalidation: bool) -> u8
 }
 
 // Writes setup data that has passed its checks.
-fn put_setup(out: &mut [u8], x: Setup)
+fn encode_setup(out: &mut [u8], x: Setup)
     requires { ⌜ (setupInRule x ≡ true) × (8 ≤ length (now out)) ⌝ }
     ensures { λ _. ⌜ now (out .exit) ≡ stored (now (out .entry)) 0 (setupBytes x) ⌝ }
 {
@@ -180,15 +180,15 @@ fn put_setup(out: &mut [u8], x: Setup)
 // Writes setup data at the front of a buffer and keeps the bytes behind it.
 pub fn write_setup(side: Setup, out: &mut [u8]) -> WriteAnswer
     ensures answer { λ r. ⌜ r ≡ writeSetupAnswer side (length (now (out .entry))) ⌝ }
-    ensures buffer { λ _. ⌜ now (out .exit) ≡ writtenSetup side (now (out .entry)) ⌝ }
+    ensures buffer { λ _. ⌜ now (out .exit) ≡ writeSetupBuffer side (now (out .entry)) ⌝ }
 {
     if !setup_in_rule(side) {
-        return wire::nothing_written(wire::BAD_ARGUMENT);
+        return answers::nothing_written(answers::BAD_ARGUMENT);
     }
     if out.len() < SETUP_BYTES {
-        return wire::nothing_written(wire::BUFFER_SHORT);
+        return answers::nothing_written(answers::BUFFER_SHORT);
     }
-    put_setup(out, side);
+    encode_setup(out, side);
     WriteAnswer {
         number: 0,
         length: SETUP_BYTES,
@@ -213,7 +213,7 @@ fn no_agreement() -> Agreement
         client_to_server: Size(0),
         server_to_client: Size(0),
         remote_invalidation: false,
-        number: wire::BAD_ARGUMENT,
+        number: answers::BAD_ARGUMENT,
     }
 }
 

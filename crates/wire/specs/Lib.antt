@@ -1,3 +1,4 @@
 pub mod Wire
 pub mod Words
-pub mod Answers
+pub mod Fits
+pub mod Internal

@@ -22,11 +22,6 @@ wordAt s k = joinBytes (getD s k 0) (getD s (k + 1) 0) (getD s (k + 2) 0) (getD 
 unfoldable pub wordOf : List ℕ → Word
 wordOf s = cond (leb 4 (length s)) (Value (wordAt s 0)) (Refused 5)
 
--- The number that a refusal hands out. (Cited by internal contracts only.)
-abbrev pub refusalOf : Word → ℕ
-refusalOf (Refused n) = n
-refusalOf (Value x) = 0
-
 -- "handle, length, offset", of which "a segment's offset has 64 bits": the segment in the bytes from k on.
 unfoldable pub segmentAt : List ℕ → ℕ → Segment
 segmentAt s k =
@@ -43,7 +38,7 @@ zeroSegment = record { handle = 0; length = 0; offset = 0 }
 abbrev pub zeroReadSegment : ReadSegment
 zeroReadSegment = record { position = 0; target = zeroSegment }
 
--- A buffer or an array l with the elements v from place k on. (`sets` stores them one by one; no place behind l is written. Cited by internal contracts only.)
+-- A buffer or an array l with the elements v from place k on. (`sets` stores them one by one; no place behind l is written.)
 unfoldable pub stored : {A : Type 0} → List A → ℕ → List A → List A
 stored l k v = sets l k v
 

@@ -1,51 +1,42 @@
-// Words and segments, of which every part of a transport header is made, read from a frame and written into a buffer; and what
-// every writer answers. The types are public, the calls internal to the library: they ask that the bytes are there.
+// Words and segments, of which every part of a transport header is made, read from a frame and written into a buffer. The types are public, the calls internal to the library: they ask that the bytes are there.
 ghost use mathlib.Core.Path.{_≡_};
 ghost use Prim.Native.Nat.{_+_, _*_, _≤_, min};
 ghost use lib.ListN.{length, drop};
 ghost use Rattle.wire.specs.Words.{joinWords, flagNumber, segmentIn, segmentWords, readSegmentIn, readSegmentWords};
-ghost use Rattle.wire.specs.Wire.{joinBytes, wordAt, wordOf, refusalOf, segmentAt, readSegmentAt, stored, wordBytes};
+ghost use Rattle.wire.specs.Wire.{joinBytes, wordAt, wordOf, segmentAt, readSegmentAt, stored, wordBytes};
+ghost use Rattle.wire.specs.Internal.Refusal.{refusalOf};
 
 // "All numbers on the wire are big-endian 32-bit words, but a segment's offset has 64 bits."
 pub const WORD_BYTES: usize = 4;
 
 // "handle, length, offset: 16 bytes each"
-pub const SEGMENT_BYTES: usize = 16;
+pub const SEGMENT_BYTES: usize = SEGMENT_WORDS * WORD_BYTES;
 
 // "An entry is position, handle, length, offset: 20 bytes."
-pub const READ_SEGMENT_BYTES: usize = 20;
+pub const READ_SEGMENT_BYTES: usize = WORD_BYTES + SEGMENT_BYTES;
 
-// A segment in words that a caller lends: how many it has, and which they are.
-pub const SEGMENT_WORDS: usize = 4;
-
+// A segment in words that a caller lends: which they are, and how many.
 pub const HANDLE_AT: usize = 0;
 
-pub const LENGTH_AT: usize = 1;
+pub const LENGTH_AT: usize = HANDLE_AT + 1;
 
-pub const OFFSET_LOW_AT: usize = 2;
+pub const OFFSET_LOW_AT: usize = LENGTH_AT + 1;
 
-pub const OFFSET_HIGH_AT: usize = 3;
+pub const OFFSET_HIGH_AT: usize = OFFSET_LOW_AT + 1;
+
+pub const SEGMENT_WORDS: usize = OFFSET_HIGH_AT + 1;
 
 // The same of a read segment.
-pub const READ_SEGMENT_WORDS: usize = 6;
-
 pub const POSITION_AT: usize = 0;
 
-const RESERVED_AT: usize = 1;
+const RESERVED_AT: usize = POSITION_AT + 1;
 
-pub const TARGET_AT: usize = 2;
+pub const TARGET_AT: usize = RESERVED_AT + 1;
+
+pub const READ_SEGMENT_WORDS: usize = TARGET_AT + SEGMENT_WORDS;
 
 // A flag that is set, as a word.
 pub const FLAG_SET: u32 = 1;
-
-// "frame ends inside a field that must be there"
-pub const ENDS_INSIDE_FIELD: u32 = 5;
-// "kind and lists do not fit"
-pub const KIND_AND_LISTS: u32 = 12;
-// "output buffer too short"
-pub const BUFFER_SHORT: u32 = 16;
-// "bad argument"
-pub const BAD_ARGUMENT: u32 = 20;
 
 // Memory that the other side registered.
 pub struct Segment {
@@ -60,23 +51,10 @@ pub struct ReadSegment {
     pub target: Segment,
 }
 
-// What a writer answers: its number, and with 0 how many bytes it wrote.
-pub struct WriteAnswer {
-    pub number: u32,
-    pub length: usize,
-}
-
 // A word that is asked for: its value, or the number of the refusal.
 pub enum Word {
     Value(u32),
     Refused(u32),
-}
-
-// What a writer answers that writes nothing.
-pub fn nothing_written(number: u32) -> WriteAnswer
-    ensures { λ r. ⌜ r ≡ record { number = number; length = 0 } ⌝ }
-{
-    WriteAnswer { number, length: 0 }
 }
 
 fn join_bytes(a: u8, b: u8, c: u8, d: u8) -> u32
@@ -105,7 +83,7 @@ pub fn first_word(s: &[u8]) -> Word
     ensures { λ r. ⌜ r ≡ wordOf (now (s .entry)) ⌝ }
 {
     if s.len() < WORD_BYTES {
-        return Word::Refused(ENDS_INSIDE_FIELD);
+        return Word::Refused(answers::ENDS_INSIDE_FIELD);
     }
     Word::Value(word_at(s, 0))
 }
@@ -210,7 +188,7 @@ pub fn flag_number(flag: bool) -> u32
 }
 
 // The smaller of two numbers.
-pub fn least(x: usize, y: usize) -> usize
+pub fn smaller(x: usize, y: usize) -> usize
     ensures { λ r. ⌜ r ≡ min x y ⌝ }
 {
     if x < y {

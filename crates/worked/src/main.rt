@@ -2,11 +2,11 @@
 // length, for what is written the number and its length, and of a reply its words; for setup data the number, whether it is
 // there, R, the send size and the receive size; for a grant the number and the credits; for a reassembly the numbers of its start,
 // of two pieces and of the asking, the message's length and its bytes, or the number alone where the start is refused.
+use chunk_lists::ReadList;
+use chunk_lists::ReplyChunk;
+use chunk_lists::WriteList;
 use header::Header;
 use header::Kind;
-use lists::ReadList;
-use lists::ReplyChunk;
-use lists::WriteList;
 use wire::ReadSegment;
 use wire::Segment;
 ghost use mathlib.Core.Path.{_≡_};
@@ -95,8 +95,8 @@ fn line(text: &[u8], number: u32, length: usize) {
 }
 
 fn read(name: &[u8], frame: &[u8]) {
-    let answer = header::read_header(frame);
-    let payload = header::payload(frame);
+    let answer = reader::read_header(frame);
+    let payload = reader::payload(frame);
     line(name, answer.number, payload.len());
 }
 
@@ -141,10 +141,10 @@ fn written(name: &[u8], h: Header) {
 
 // The reply to a frame with the number that reading gives it.
 fn replied(text: &[u8], frame: &[u8], limit: u32) {
-    let answer = header::read_header(frame);
+    let answer = reader::read_header(frame);
     let mut space = [0u8; 28];
     let out: &mut [u8] = &mut space;
-    let written = reply::error_reply(frame, answer.number, limit, out);
+    let written = error_reply::error_reply(frame, answer.number, limit, out);
     name(text);
     value(written.number as u64);
     value(written.length as u64);
@@ -260,7 +260,7 @@ fn bytes(s: &[u8]) {
 fn assembled(text: &[u8], frame: &[u8], first: &[u8], second: &[u8]) {
     let mut space = [255u8; 24];
     let out: &mut [u8] = &mut space;
-    let started = assembly::start(frame, out);
+    let started = assembly_start::start(frame, out);
     if started.number != 0 {
         name(text);
         value(started.number as u64);
@@ -270,7 +270,7 @@ fn assembled(text: &[u8], frame: &[u8], first: &[u8], second: &[u8]) {
     let mut state = started.state;
     let one = assembly::take_piece(&mut state, first, out);
     let two = assembly::take_piece(&mut state, second, out);
-    let number = assembly::ask(&state, &space);
+    let number = assembly::message_number(&state, &space);
     let message = assembly::message(&state, &space);
     name(text);
     value(started.number as u64);
@@ -313,7 +313,7 @@ fn c9() {
 }
 
 fn granted(text: &[u8], asked: u32, limit: u32) {
-    let answer = reply::grant(asked, limit);
+    let answer = credit::grant(asked, limit);
     name(text);
     value(answer.number as u64);
     value(answer.credit as u64);

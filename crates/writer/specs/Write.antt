@@ -1,34 +1,25 @@
 -- Writing a header (document 01, "The numbers and their order").
-use Prim.Native.Nat.{ℕ, _+_}
-use mathlib.Core.Bool.{Bool, true, cond, not, _&&_}
-use mathlib.Core.List.{List, [], _∷_}
+use Prim.Native.Nat.{ℕ}
+use mathlib.Core.Bool.{Bool, true, not, _&&_}
+use mathlib.Core.List.{List}
 use mathlib.Core.Option.{Option, none, some}
-use lib.ListN.{length, take}
+use lib.ListN.{length}
 use lib.Dec.{leb, eqb}
-use Rattle.wire.specs.Answers.{check, roomNumber, writerAnswer, writerBuffer}
-use Rattle.wire.specs.declared.WriteAnswer.{WriteAnswer}
-use Rattle.lists.specs.Lists.{mostReads, mostChunks, mostWrites, mostReplies, positionsNumber}
+use Rattle.answers.specs.Answers.{check, roomNumber, writerAnswer, writerBuffer}
+use Rattle.answers.specs.declared.WriteAnswer.{WriteAnswer}
+use Rattle.chunk_lists.specs.Lists.{positionsNumber}
 use Rattle.header.specs.Content.{contentOf}
 use Rattle.header.specs.declared.Kind.{Kind}
 use Rattle.header.specs.declared.Kind.the-variants.{Msg, Nomsg, Error}
 use Rattle.header.specs.declared.Header.{Header}
-use Rattle.writer.specs.Bytes.{headerBytes}
+use Rattle.header.specs.Bytes.{headerBytes}
+use Rattle.header.specs.Limits.{withinLimits}
 
 -- "12 (here only for an ERROR header with any entry or a reply chunk)"
 abbrev pub bareIfError : Kind → ℕ → ℕ → Bool → Bool
 bareIfError Msg reads chunks present = true
 bareIfError Nomsg reads chunks present = true
 bareIfError (Error e) reads chunks present = eqb reads 0 && (eqb chunks 0 && not present)
-
--- The segments of all chunks together.
-unfoldable pub total : List ℕ → ℕ
-total [] = 0
-total (n ∷ ns) = n + total ns
-
--- "7 (also segments in an absent reply chunk)": the limits of a header that is to be written.
-unfoldable pub withinLimits : ℕ → ℕ → List ℕ → Bool → ℕ → Bool
-withinLimits reads chunks counts present replies =
-    leb reads mostReads && (leb chunks mostChunks && (leb (total (take chunks counts)) mostWrites && leb replies (cond present mostReplies 0)))
 
 -- "Writing a header checks 12 .., 7 .., then entry by entry 9 and 8, then 21, 16.", into `room` bytes. (No header within the limits is as long as 21 asks.)
 unfoldable pub writeNumber : Header → ℕ → ℕ
@@ -44,15 +35,15 @@ unfoldable pub writeAnswer : Header → ℕ → WriteAnswer
 writeAnswer h room = writerAnswer (writeNumber h room) (headerBytes (contentOf h))
 
 -- The buffer after the call.
-unfoldable pub writtenInto : Header → List ℕ → List ℕ
-writtenInto h out = writerBuffer (writeNumber h (length out)) (headerBytes (contentOf h)) out
+unfoldable pub writeBuffer : Header → List ℕ → List ℕ
+writeBuffer h out = writerBuffer (writeNumber h (length out)) (headerBytes (contentOf h)) out
 
 -- The answer to one who lends the header: "bad argument" (20) where its kind or its flag stands for nothing.
-abbrev pub lentAnswer : Option Header → ℕ → WriteAnswer
-lentAnswer none room = record { number = 20; length = 0 }
-lentAnswer (some h) room = writeAnswer h room
+abbrev pub writeWordsAnswer : Option Header → ℕ → WriteAnswer
+writeWordsAnswer none room = record { number = 20; length = 0 }
+writeWordsAnswer (some h) room = writeAnswer h room
 
 -- The buffer then.
-abbrev pub lentBuffer : Option Header → List ℕ → List ℕ
-lentBuffer none out = out
-lentBuffer (some h) out = writtenInto h out
+abbrev pub writeWordsBuffer : Option Header → List ℕ → List ℕ
+writeWordsBuffer none out = out
+writeWordsBuffer (some h) out = writeBuffer h out

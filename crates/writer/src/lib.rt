@@ -1,28 +1,26 @@
 // The transport header, written into a lent buffer. Public: write_header; write_words, which writes from lent words.
+use answers::WriteAnswer;
 use header::ErrorKind;
 use header::Header;
 use header::Kind;
 use header::Known;
-use wire::WriteAnswer;
 ghost use mathlib.Core.Path.{_≡_};
 ghost use mathlib.Core.Bool.{true, cond};
 ghost use mathlib.Core.List.{List};
 ghost use Prim.Native.Nat.{ℕ, _+_, _*_, _≤_};
-ghost use lib.ListN.{length, take, drop};
-ghost use Rattle.wire.specs.Answers.{unlessRefused};
+ghost use lib.ListN.{length, take, drop, getD};
+ghost use Rattle.answers.specs.Answers.{unlessRefused};
 ghost use Rattle.wire.specs.Wire.{stored, joined, segmentBytes};
 ghost use Rattle.wire.specs.Words.{segmentIn, readSegmentIn};
-ghost use Rattle.lists.specs.Words.{readsIn, segmentsIn};
+ghost use Rattle.chunk_lists.specs.Words.{readsIn, segmentsIn};
 ghost use Rattle.header.specs.Content.{contentOf, runs, replyOf};
-ghost use Rattle.header.specs.Words.{headerAs, headerIn};
-ghost use Rattle.writer.specs.Bytes.{entryBytes, chunkBytes, readListBytes, writeListBytes, replyBytes, errorBytes, fixedBytes, procedureOf, restBytes, headerBytes};
-ghost use Rattle.writer.specs.Write.{bareIfError, total, withinLimits, writeNumber, writeAnswer, writtenInto, lentAnswer, lentBuffer};
-ghost use Rattle.writer.specs.Words.{countsIn, limitsKept, partsIn};
+ghost use Rattle.header.specs.Words.{xidAt, creditAt, headerAs, headerIn, countsIn};
+ghost use Rattle.header.specs.Bytes.{entryBytes, chunkBytes, readListBytes, writeListBytes, replyBytes, errorBytes, fixedBytes, procedureOf, restBytes, headerBytes};
+ghost use Rattle.writer.specs.Write.{bareIfError, writeNumber, writeAnswer, writeBuffer, writeWordsAnswer, writeWordsBuffer};
+ghost use Rattle.header.specs.Limits.{total};
+ghost use Rattle.writer.specs.Internal.Parts.{limitsKept, partsBytesIn};
 
-// "a header to be written is longer than 1,024 bytes"
-pub const HEADER_LONG: u32 = 21;
-
-pub const LONGEST_HEADER: usize = 1024;
+pub const MAX_HEADER_BYTES: usize = 1024;
 
 // "a marker word 1, an entry, .. a marker word 0 ends it"
 const ENTRY: u32 = 1;
@@ -58,45 +56,13 @@ fn bare_if_error(kind: Kind, reads: usize, chunks: usize, present: bool) -> bool
     }
 }
 
-// The segments of the first n chunks, in 64 bits, so that no counts wrap.
-fn total_count(words: &[u32], n: usize) -> usize
-    requires { ⌜ (length (now words) ≡ 238) × (n ≤ 4) ⌝ }
-    ensures { λ r. ⌜ r ≡ total (take n (countsIn (now (words .entry)))) ⌝ }
-{
-    let mut sum = 0;
-    for k in 0..n {
-        sum += words[header::WRITE_COUNTS_AT + k] as usize;
-    }
-    sum
-}
-
-// Whether the counts of a header are within its limits.
-fn within_limits(words: &[u32], reads: usize, chunks: usize, present: bool, replies: usize) -> bool
-    requires { ⌜ length (now words) ≡ 238 ⌝ }
-    ensures { λ r. ⌜ r ≡ withinLimits reads chunks (countsIn (now (words .entry))) present replies ⌝ }
-{
-    if lists::READ_SEGMENTS < reads {
-        return false;
-    }
-    if lists::WRITE_CHUNKS < chunks {
-        return false;
-    }
-    if lists::WRITE_SEGMENTS < total_count(words, chunks) {
-        return false;
-    }
-    if present {
-        return replies <= lists::REPLY_SEGMENTS;
-    }
-    replies == 0
-}
-
 // The bytes of a reply chunk, or of its absence.
 fn reply_length(present: bool, count: usize) -> usize
     requires { ⌜ count ≤ 16 ⌝ }
     ensures { λ r. ⌜ r ≡ cond present (8 + count * 16) 4 ⌝ }
 {
     if present {
-        return lists::CHUNK_HEAD_BYTES + count * wire::SEGMENT_BYTES;
+        return chunk_lists::CHUNK_HEAD_BYTES + count * wire::SEGMENT_BYTES;
     }
     wire::WORD_BYTES
 }
@@ -106,8 +72,10 @@ fn lists_length(reads: usize, chunks: usize, segments: usize, reply: usize) -> u
     requires { ⌜ (reads ≤ 16) × (chunks ≤ 4) × (segments ≤ 16) × (reply ≤ 264) ⌝ }
     ensures { λ r. ⌜ r ≡ (reads * 24 + 4) + ((chunks * 8 + segments * 16 + 4) + reply) ⌝ }
 {
-    (reads * lists::MARKED_ENTRY_BYTES + wire::WORD_BYTES)
-        + ((chunks * lists::CHUNK_HEAD_BYTES + segments * wire::SEGMENT_BYTES + wire::WORD_BYTES)
+    (reads * chunk_lists::MARKED_ENTRY_BYTES + wire::WORD_BYTES)
+        + ((chunks * chunk_lists::CHUNK_HEAD_BYTES
+            + segments * wire::SEGMENT_BYTES
+            + wire::WORD_BYTES)
             + reply)
 }
 
@@ -123,18 +91,17 @@ fn error_length(e: ErrorKind) -> usize
 
 // How many bytes a header within its limits takes.
 fn header_length(
-    words: &[u32],
     kind: Kind,
     reads: usize,
     chunks: usize,
+    segments: usize,
     present: bool,
     replies: usize,
 ) -> usize
-    requires { ⌜ (length (now words) ≡ 238) × (reads ≤ 16) × (chunks ≤ 4) × (total (take chunks (countsIn (now words))) ≤ 16) × (replies ≤ 16) ⌝ }
-    ensures { λ r. ⌜ ((parts : List ℕ) → length parts ≡ (reads * 24 + 4) + ((chunks * 8 + total (take chunks (countsIn (now (words .entry)))) * 16 + 4) + cond present (8 + replies * 16) 4) → r ≡ 16 + length (restBytes kind parts)) ⌝ }
+    requires { ⌜ (reads ≤ 16) × (chunks ≤ 4) × (segments ≤ 16) × (replies ≤ 16) ⌝ }
+    ensures { λ r. ⌜ ((parts : List ℕ) → length parts ≡ (reads * 24 + 4) + ((chunks * 8 + segments * 16 + 4) + cond present (8 + replies * 16) 4) → r ≡ 16 + length (restBytes kind parts)) ⌝ }
 {
     let Kind::Error(e) = kind else {
-        let segments = total_count(words, chunks);
         return header::FIXED_BYTES
             + lists_length(reads, chunks, segments, reply_length(present, replies));
     };
@@ -150,21 +117,22 @@ fn write_number(words: &[u32], kind: Kind, present: bool, room: usize) -> u32
     let chunks = words[header::WRITE_CHUNKS_AT] as usize;
     let replies = words[header::REPLY_COUNT_AT] as usize;
     if !bare_if_error(kind, reads, chunks, present) {
-        return wire::KIND_AND_LISTS;
+        return answers::KIND_AND_LISTS;
     }
-    if !within_limits(words, reads, chunks, present, replies) {
-        return lists::OVER_LIMIT;
+    let segments = header::total_count(words, chunks);
+    if !header::within_limits(reads, chunks, segments, present, replies) {
+        return answers::OVER_LIMIT;
     }
-    let fault = lists::positions_in(words, reads);
+    let fault = chunk_lists::check_positions(words, reads);
     if fault != 0 {
         return fault;
     }
-    let length = header_length(words, kind, reads, chunks, present, replies);
-    if LONGEST_HEADER < length {
-        return HEADER_LONG;
+    let length = header_length(kind, reads, chunks, segments, present, replies);
+    if MAX_HEADER_BYTES < length {
+        return answers::HEADER_LONG;
     }
     if room < length {
-        return wire::BUFFER_SHORT;
+        return answers::BUFFER_SHORT;
     }
     0
 }
@@ -202,12 +170,12 @@ fn encode_read_list(out: &mut [u8], k: usize, words: &[u32], n: usize)
     for j in 0..n {
         encode_entry(
             out,
-            k + j * lists::MARKED_ENTRY_BYTES,
+            k + j * chunk_lists::MARKED_ENTRY_BYTES,
             words,
             j * wire::READ_SEGMENT_WORDS,
         );
     }
-    wire::put_word(out, k + n * lists::MARKED_ENTRY_BYTES, END);
+    wire::put_word(out, k + n * chunk_lists::MARKED_ENTRY_BYTES, END);
 }
 
 // Writes n segments, from the i-th place of those at word `from` on.
@@ -232,7 +200,7 @@ fn encode_chunk(out: &mut [u8], k: usize, words: &[u32], from: usize, i: usize, 
 {
     wire::put_word(out, k, ENTRY);
     wire::put_word(out, k + wire::WORD_BYTES, n as u32);
-    encode_segments(out, k + lists::CHUNK_HEAD_BYTES, words, from, i, n);
+    encode_segments(out, k + chunk_lists::CHUNK_HEAD_BYTES, words, from, i, n);
 }
 
 // Writes the n chunks of the write list and its end; answers where it ends.
@@ -245,7 +213,7 @@ fn encode_write_list(out: &mut [u8], k: usize, words: &[u32], n: usize) -> usize
     for j in 0..n {
         let d = words[header::WRITE_COUNTS_AT + j] as usize;
         encode_chunk(out, end, words, header::WRITES_AT, used, d);
-        end += lists::CHUNK_HEAD_BYTES + d * wire::SEGMENT_BYTES;
+        end += chunk_lists::CHUNK_HEAD_BYTES + d * wire::SEGMENT_BYTES;
         used += d;
     }
     wire::put_word(out, end, END);
@@ -259,7 +227,7 @@ fn encode_reply_chunk(out: &mut [u8], k: usize, words: &[u32], present: bool, n:
 {
     if present {
         encode_chunk(out, k, words, header::REPLY_AT, 0, n);
-        return k + lists::CHUNK_HEAD_BYTES + n * wire::SEGMENT_BYTES;
+        return k + chunk_lists::CHUNK_HEAD_BYTES + n * wire::SEGMENT_BYTES;
     }
     wire::put_word(out, k, END);
     k + wire::WORD_BYTES
@@ -294,27 +262,28 @@ fn procedure_of(kind: Kind) -> u32
     }
 }
 
-// Writes the fixed words.
-fn encode_fixed(out: &mut [u8], kind: Kind, xid: u32, credit: u32)
-    requires { ⌜ 16 ≤ length (now out) ⌝ }
-    ensures { λ _. ⌜ now (out .exit) ≡ stored (now (out .entry)) 0 (fixedBytes kind xid credit) ⌝ }
+// Writes the fixed words: xid and credit last, each read where it is written, as in encode_segment. A computed word written
+// behind them would keep the compiler from storing them whole.
+fn encode_fixed(out: &mut [u8], words: &[u32], kind: Kind)
+    requires { ⌜ (length (now words) ≡ 238) × (16 ≤ length (now out)) ⌝ }
+    ensures { λ _. ⌜ now (out .exit) ≡ stored (now (out .entry)) 0 (fixedBytes kind (getD (now (words .entry)) xidAt 0) (getD (now (words .entry)) creditAt 0)) ⌝ }
 {
-    wire::put_word(out, header::XID_AT, xid);
     wire::put_word(out, header::VERSION_AT, header::VERSION);
-    wire::put_word(out, header::CREDIT_AT, credit);
     wire::put_word(out, header::PROCEDURE_AT, procedure_of(kind));
+    wire::put_word(out, header::XID_AT, words[header::XID_WORD_AT]);
+    wire::put_word(out, header::CREDIT_AT, words[header::CREDIT_WORD_AT]);
 }
 
 // Writes the three parts behind the fixed words; answers where they end.
 fn encode_lists(out: &mut [u8], words: &[u32], present: bool) -> usize
-    requires { ⌜ (length (now words) ≡ 238) × (limitsKept (now words) present ≡ true) × (16 + length (partsIn (now words) present) ≤ length (now out)) ⌝ }
-    ensures { λ r. ⌜ (r ≡ 16 + length (partsIn (now (words .entry)) present)) × (now (out .exit) ≡ stored (now (out .entry)) 16 (partsIn (now (words .entry)) present)) ⌝ }
+    requires { ⌜ (length (now words) ≡ 238) × (limitsKept (now words) present ≡ true) × (16 + length (partsBytesIn (now words) present) ≤ length (now out)) ⌝ }
+    ensures { λ r. ⌜ (r ≡ 16 + length (partsBytesIn (now (words .entry)) present)) × (now (out .exit) ≡ stored (now (out .entry)) 16 (partsBytesIn (now (words .entry)) present)) ⌝ }
 {
     let n = words[header::READ_COUNT_AT] as usize;
     encode_read_list(out, header::FIXED_BYTES, words, n);
     let end = encode_write_list(
         out,
-        header::EMPTY_READS_BYTES + n * lists::MARKED_ENTRY_BYTES,
+        header::EMPTY_READS_BYTES + n * chunk_lists::MARKED_ENTRY_BYTES,
         words,
         words[header::WRITE_CHUNKS_AT] as usize,
     );
@@ -332,12 +301,7 @@ fn encode_header(out: &mut [u8], words: &[u32], kind: Kind, present: bool) -> us
     requires { ⌜ (length (now words) ≡ 238) × (limitsKept (now words) present ≡ true) × (length (headerBytes (contentOf (headerAs (now words) kind present))) ≤ length (now out)) ⌝ }
     ensures { λ r. ⌜ (r ≡ length (headerBytes (contentOf (headerAs (now (words .entry)) kind present)))) × (now (out .exit) ≡ stored (now (out .entry)) 0 (headerBytes (contentOf (headerAs (now (words .entry)) kind present)))) ⌝ }
 {
-    encode_fixed(
-        out,
-        kind,
-        words[header::XID_WORD_AT],
-        words[header::CREDIT_WORD_AT],
-    );
+    encode_fixed(out, words, kind);
     let Kind::Error(e) = kind else {
         return encode_lists(out, words, present);
     };
@@ -346,9 +310,9 @@ fn encode_header(out: &mut [u8], words: &[u32], kind: Kind, present: bool) -> us
 
 // Writes the header that the words hold at the front of a buffer, keeps the bytes behind it, and stores how many bytes it has.
 pub fn write_words(words: &[u32; 238], out: &mut [u8], size: &mut usize) -> u32
-    ensures answer { λ r. ⌜ r ≡ lentAnswer (headerIn (now (words .entry))) (length (now (out .entry))) .number ⌝ }
-    ensures size { λ _. ⌜ now (size .exit) ≡ unlessRefused (lentAnswer (headerIn (now (words .entry))) (length (now (out .entry))) .number) (lentAnswer (headerIn (now (words .entry))) (length (now (out .entry))) .length) (now (size .entry)) ⌝ }
-    ensures buffer { λ _. ⌜ now (out .exit) ≡ lentBuffer (headerIn (now (words .entry))) (now (out .entry)) ⌝ }
+    ensures answer { λ r. ⌜ r ≡ writeWordsAnswer (headerIn (now (words .entry))) (length (now (out .entry))) .number ⌝ }
+    ensures size { λ _. ⌜ now (size .exit) ≡ unlessRefused (writeWordsAnswer (headerIn (now (words .entry))) (length (now (out .entry))) .number) (writeWordsAnswer (headerIn (now (words .entry))) (length (now (out .entry))) .length) (now (size .entry)) ⌝ }
+    ensures buffer { λ _. ⌜ now (out .exit) ≡ writeWordsBuffer (headerIn (now (words .entry))) (now (out .entry)) ⌝ }
 {
     let known = header::kind_in(
         words[header::KIND_WORD_AT],
@@ -356,11 +320,11 @@ pub fn write_words(words: &[u32; 238], out: &mut [u8], size: &mut usize) -> u32
         words[header::HIGH_WORD_AT],
     );
     let Known::Is(kind) = known else {
-        return wire::BAD_ARGUMENT;
+        return answers::BAD_ARGUMENT;
     };
     let flag = words[header::REPLY_PRESENT_AT];
     if wire::FLAG_SET < flag {
-        return wire::BAD_ARGUMENT;
+        return answers::BAD_ARGUMENT;
     }
     let present = flag == wire::FLAG_SET;
     let number = write_number(words, kind, present, out.len());
@@ -374,7 +338,7 @@ pub fn write_words(words: &[u32; 238], out: &mut [u8], size: &mut usize) -> u32
 // The same of a header by value.
 pub fn write_header(h: Header, out: &mut [u8]) -> WriteAnswer
     ensures answer { λ r. ⌜ r ≡ writeAnswer h (length (now (out .entry))) ⌝ }
-    ensures buffer { λ _. ⌜ now (out .exit) ≡ writtenInto h (now (out .entry)) ⌝ }
+    ensures buffer { λ _. ⌜ now (out .exit) ≡ writeBuffer h (now (out .entry)) ⌝ }
 {
     let words = header::words_of(h);
     let mut length: usize = 0;

@@ -1,14 +1,11 @@
 -- `c_header::eos_payload` meets its contract.
-use Rattle.header.proofs.Lies.{payload-short}
+use Rattle.reader.proofs.FrameParts.{payload-short}
 use denote.Ref.{now}
 use borrow.Author.Tests.{eq-eqb, ne-eqb}
 use Rattle.c_header.specs.Part.{partOf}
 use borrow.Author.Needs.{needs}
 use Rattle.c_header.proofs.eos_payload.Statement.{statement}
 use Rattle.c_header.proofs.eos_payload.Tie as tie
-
-payload-requires : tie.Need-payload-requires
-payload-requires c κs = search needs
 
 returns : tie.Need-returns
 unfolding partOf
@@ -22,4 +19,4 @@ unfolding partOf
 returns-2 c = rw (← (c .before .payload .ensures), ne-eqb _ _ (c .if1 .left))
 
 pub eos-payload-spec : {M : Type 1} → statement M
-eos-payload-spec = tie.close (tie.spec payload-requires returns sub-t6 returns-2)
+eos-payload-spec = tie.close (tie.spec (λ c κs. search needs) returns sub-t6 returns-2)

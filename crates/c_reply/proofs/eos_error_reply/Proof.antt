@@ -5,19 +5,10 @@ use borrow.Author.Needs.{needs}
 use Rattle.c_reply.proofs.eos_error_reply.Statement.{statement}
 use Rattle.c_reply.proofs.eos_error_reply.Tie as tie
 
-error-reply-requires : tie.Need-error-reply-requires
-error-reply-requires c κs = search needs
-
-same-length : tie.Need-same-length
-same-length c = search needs
-
 returns : tie.Need-returns
 returns c =
     let done = c .before .before .before .before .error-reply .ensures in
     rw (← (done .0), ne-eqb _ _ (c .if1 .taken)) (refl, (refl, done .1))
-
-same-length-2 : tie.Need-same-length-2
-same-length-2 c = search needs
 
 returns-2 : tie.Need-returns-2
 returns-2 c =
@@ -26,4 +17,4 @@ returns-2 c =
 
 pub eos-error-reply-spec : {M : Type 1} → statement M
 eos-error-reply-spec =
-    tie.close (tie.spec error-reply-requires same-length returns same-length-2 returns-2)
+    tie.close (tie.spec (λ c κs. search needs) (λ c. search needs) returns (λ c. search needs) returns-2)

@@ -5,9 +5,6 @@ use borrow.Author.Needs.{needs}
 use Rattle.c_reply.proofs.eos_grant.Statement.{statement}
 use Rattle.c_reply.proofs.eos_grant.Tie as tie
 
-grant-requires : tie.Need-grant-requires
-grant-requires c κs = search needs
-
 returns : tie.Need-returns
 returns c = rw (← (c .before .before .grant .ensures), ne-eqb _ _ (c .if1 .taken)) (refl, refl)
 
@@ -15,4 +12,4 @@ returns-2 : tie.Need-returns-2
 returns-2 c = rw (← (c .before .before .grant .ensures), c .if1 .left) (refl, refl)
 
 pub eos-grant-spec : {M : Type 1} → statement M
-eos-grant-spec = tie.close (tie.spec grant-requires returns returns-2)
+eos-grant-spec = tie.close (tie.spec (λ c κs. search needs) returns returns-2)

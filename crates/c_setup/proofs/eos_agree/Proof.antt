@@ -3,40 +3,22 @@ use mathlib.Core.Path.{refl}
 use borrow.Author.Tests.{ne-eqb}
 use denote.Ref.{now}
 use Rattle.c_setup.specs.Words.{agreementWords}
-use Rattle.c_setup.proofs.Laws.{no-client, no-server, two-sides}
+use Rattle.c_setup.proofs.SetupWords.{no-client, no-server, two-sides}
 use borrow.Author.Needs.{needs}
 use Rattle.c_setup.proofs.eos_agree.Statement.{statement}
 use Rattle.c_setup.proofs.eos_agree.Tie as tie
 
-element-copy-out-if1 : tie.Need-element-copy-out-if1
-element-copy-out-if1 c = search needs
-
 returns : tie.Need-returns
 returns c = rw (no-client _ _ (c .if1 .taken)) (refl, refl)
 
-element-copy-out-if2 : tie.Need-element-copy-out-if2
-element-copy-out-if2 c = search needs
-
 returns-2 : tie.Need-returns-2
 returns-2 c = rw (no-server _ _ (c .before .before .if1 .left) (c .if2 .taken)) (refl, refl)
-
-setup-in-requires : tie.Need-setup-in-requires
-setup-in-requires c κs = search needs
-
-setup-in-requires-2 : tie.Need-setup-in-requires-2
-setup-in-requires-2 c κs = search needs
-
-agree-requires : tie.Need-agree-requires
-agree-requires c κs = search needs
 
 returns-3 : tie.Need-returns-3
 returns-3 c =
     let a = c .before .before .before .before .before .before .before .before .before .args in
     let is = two-sides (now (a .client)) (now (a .server)) (c .before .before .before .before .before .before .before .if1 .left) (c .before .before .before .before .before .if2 .left) in
     rw (is, ← (c .before .before .before .before .setup-in .ensures), ← (c .before .before .before .setup-in2 .ensures), ← (c .before .before .agree .ensures), ne-eqb _ _ (c .if3 .taken)) (refl, refl)
-
-flag-number-requires : tie.Need-flag-number-requires
-flag-number-requires c κs = search needs
 
 returns-4 : tie.Need-returns-4
 unfolding agreementWords
@@ -48,14 +30,5 @@ returns-4 c =
 pub eos-agree-spec : {M : Type 1} → statement M
 eos-agree-spec =
     tie.close
-    (tie.spec
-    element-copy-out-if1
-    returns
-    element-copy-out-if2
-    returns-2
-    setup-in-requires
-    setup-in-requires-2
-    agree-requires
-    returns-3
-    flag-number-requires
-    returns-4)
+    (tie.spec (λ c. search needs) returns (λ c. search needs) returns-2 (λ c κs. search needs) (λ c κs. search needs)
+    (λ c κs. search needs) returns-3 (λ c κs. search needs) returns-4)

@@ -5,15 +5,6 @@ use borrow.Author.Needs.{needs}
 use Rattle.c_setup.proofs.eos_read_setup.Statement.{statement}
 use Rattle.c_setup.proofs.eos_read_setup.Tie as tie
 
-read-setup-requires : tie.Need-read-setup-requires
-read-setup-requires c κs = search needs
-
-flag-number-requires : tie.Need-flag-number-requires
-flag-number-requires c κs = search needs
-
-flag-number-requires-2 : tie.Need-flag-number-requires-2
-flag-number-requires-2 c κs = search needs
-
 returns : tie.Need-returns
 unfolding setupWords
 returns c =
@@ -22,4 +13,4 @@ returns c =
 
 pub eos-read-setup-spec : {M : Type 1} → statement M
 eos-read-setup-spec =
-    tie.close (tie.spec read-setup-requires flag-number-requires flag-number-requires-2 returns)
+    tie.close (tie.spec (λ c κs. search needs) (λ c κs. search needs) (λ c κs. search needs) returns)

@@ -5,19 +5,10 @@ use borrow.Author.Needs.{needs}
 use Rattle.c_setup.proofs.setup_in.Statement.{statement}
 use Rattle.c_setup.proofs.setup_in.Tie as tie
 
-element-copy-out-t4 : tie.Need-element-copy-out-t4
-element-copy-out-t4 c = search needs
-
-element-copy-out-t8 : tie.Need-element-copy-out-t8
-element-copy-out-t8 c = search needs
-
-element-copy-out-t12 : tie.Need-element-copy-out-t12
-element-copy-out-t12 c = search needs
-
 returns : tie.Need-returns
 unfolding setupIn
 returns c = refl
 
 pub setup-in-spec : {M : Type 1} → statement M
 setup-in-spec =
-    tie.close (tie.spec element-copy-out-t4 element-copy-out-t8 element-copy-out-t12 returns)
+    tie.close (tie.spec (λ c. search needs) (λ c. search needs) (λ c. search needs) returns)

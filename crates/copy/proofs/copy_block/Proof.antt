@@ -1,12 +1,10 @@
 -- `copy::copy_block` meets its contract.
 use borrow.Author.Needs.{needs}
 use native.Mathlib.Omega.{arith}
-use lib.ListN.{length, length-set, take, drop, getD}
-use Prim.Native.Nat.{_≤_, _-_, _+_}
+use lib.ListN.{length, length-set, take, drop, getD, set}
+use Prim.Native.Nat.{_≤_, _-_, _+_, ℕ, _<_}
 use mathlib.Core.Path.{_≡_, refl, sym, ap, _∙_}
 use lib.Seq.{paste, paste-suc, take-length, take-suc, take-suc-set}
-use lib.ListN.{set}
-use Prim.Native.Nat.{ℕ, _<_}
 use native.Mathlib.Numerals.{add-one}
 use native.Mathlib.Nat.{zero-add}
 use mathlib.Core.List.{List, _++_, [], _∷_}
@@ -40,18 +38,6 @@ abbrev μ-loop2 : tie.MeasureT-loop2
 loop-holds : tie.Need-loop-holds Inv-loop μ-loop Inv-loop2 μ-loop2
 loop-holds c = (search needs, search needs, search needs, refl, refl)
 
-shared-slice-read-block : tie.Need-shared-slice-read-block Inv-loop μ-loop Inv-loop2 μ-loop2
-shared-slice-read-block c = search needs
-
-array-write-block : tie.Need-array-write-block Inv-loop μ-loop Inv-loop2 μ-loop2
-array-write-block c = search needs
-
-add-i : tie.Need-add-i Inv-loop μ-loop Inv-loop2 μ-loop2
-add-i c = search needs
-
-loop-less : tie.Need-loop-less Inv-loop μ-loop Inv-loop2 μ-loop2
-loop-less c = search needs
-
 loop-again : tie.Need-loop-again Inv-loop μ-loop Inv-loop2 μ-loop2
 loop-again c = (
   search needs,
@@ -76,18 +62,6 @@ loop2-holds c =
       refl,
     )
 
-array-read-out : tie.Need-array-read-out Inv-loop μ-loop Inv-loop2 μ-loop2
-array-read-out c = search needs
-
-slice-write-out : tie.Need-slice-write-out Inv-loop μ-loop Inv-loop2 μ-loop2
-slice-write-out c = search needs
-
-add-j : tie.Need-add-j Inv-loop μ-loop Inv-loop2 μ-loop2
-add-j c = search needs
-
-loop2-less : tie.Need-loop2-less Inv-loop μ-loop Inv-loop2 μ-loop2
-loop2-less c = search needs
-
 loop2-again : tie.Need-loop2-again Inv-loop μ-loop Inv-loop2 μ-loop2
 loop2-again c =
     let l = c .before .loop2 in (
@@ -100,9 +74,6 @@ loop2-again c =
       search needs,
       copied-more (c .before .before .before .before .args .out .now) (c .before .before .before .loop .block) (l .out) (l .j) (l .inv .7) (omega arith) (omega arith),
     )
-
-same-length : tie.Need-same-length Inv-loop μ-loop Inv-loop2 μ-loop2
-same-length c = search needs
 
 returns : tie.Need-returns Inv-loop μ-loop Inv-loop2 μ-loop2
 returns c =
@@ -119,22 +90,6 @@ returns c =
 pub copy-block-spec : {M : Type 1} → statement M
 copy-block-spec =
     tie.close
-    (tie.spec
-    Inv-loop
-    μ-loop
-    Inv-loop2
-    μ-loop2
-    loop-holds
-    shared-slice-read-block
-    array-write-block
-    add-i
-    loop-less
-    loop-again
-    loop2-holds
-    array-read-out
-    slice-write-out
-    add-j
-    loop2-less
-    loop2-again
-    same-length
-    returns)
+    (tie.spec Inv-loop μ-loop Inv-loop2 μ-loop2 loop-holds (λ c. search needs) (λ c. search needs) (λ c. search needs)
+    (λ c. search needs) loop-again loop2-holds (λ c. search needs) (λ c. search needs) (λ c. search needs)
+    (λ c. search needs) loop2-again (λ c. search needs) returns)

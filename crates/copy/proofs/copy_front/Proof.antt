@@ -1,13 +1,11 @@
 -- `copy::copy_front` meets its contract.
 use borrow.Author.Needs.{needs}
 use native.Mathlib.Omega.{arith}
-use lib.ListN.{length, take, drop}
-use Prim.Native.Nat.{_≤_, _-_, _+_}
+use lib.ListN.{length, take, drop, length-drop}
+use Prim.Native.Nat.{_≤_, _-_, _+_, ℕ}
 use mathlib.Core.Path.{_≡_, refl, sym, ap, _∙_}
 use lib.Seq.{take-length, drop-length, take-at, drop-at, take-add, drop-drop, length-take-le}
-use lib.ListN.{length-drop}
 use borrow.Rule.Slice.PartMut.{putMid}
-use Prim.Native.Nat.{ℕ}
 use native.Mathlib.Nat.{add-sub-cancel-left}
 use mathlib.Core.List.{List, _++_, [], append-assoc, append-nil}
 use Rattle.copy.proofs.copy_front.Statement.{statement}
@@ -48,43 +46,10 @@ abbrev μ-loop : tie.MeasureT-loop
 loop-holds : tie.Need-loop-holds Inv-loop μ-loop
 loop-holds c = (search needs, search needs, search needs, search needs, refl)
 
-sub-least : tie.Need-sub-least Inv-loop μ-loop
-sub-least c = search needs
-
-least-requires : tie.Need-least-requires Inv-loop μ-loop
-least-requires c κs = search needs
-
-add-e : tie.Need-add-e Inv-loop μ-loop
-add-e c = search needs
-
-sub-copy-block : tie.Need-sub-copy-block Inv-loop μ-loop
-sub-copy-block c = search needs
-
-part-copy-block-start : tie.Need-part-copy-block-start Inv-loop μ-loop
-part-copy-block-start c = search needs
-
-part-copy-block-end : tie.Need-part-copy-block-end Inv-loop μ-loop
-part-copy-block-end c = search needs
-
-sub-copy-block-2 : tie.Need-sub-copy-block-2 Inv-loop μ-loop
-sub-copy-block-2 c = search needs
-
-part-copy-block-start-2 : tie.Need-part-copy-block-start-2 Inv-loop μ-loop
-part-copy-block-start-2 c = search needs
-
-part-copy-block-end-2 : tie.Need-part-copy-block-end-2 Inv-loop μ-loop
-part-copy-block-end-2 c = search needs
-
-copy-block-requires : tie.Need-copy-block-requires Inv-loop μ-loop
-copy-block-requires c κs = search needs
-
-loop-less : tie.Need-loop-less Inv-loop μ-loop
-loop-less c = search needs
-
 loop-again : tie.Need-loop-again Inv-loop μ-loop
 loop-again c =
     let l = c .before .before .before .before .before .before .before .loop in
-    let m = c .before .before .before .before .before .least .result in
+    let m = c .before .before .before .before .before .smaller .result in
     let a = c .before .before .before .before .before .before .before .before .before .before .args in (
       search needs,
       search needs,
@@ -95,9 +60,6 @@ loop-again c =
           ∙ ap (λ (q : ℕ). take q (drop (l .i) (a .src .now)) ++ drop (length (take q (drop (l .i) (a .src .now)))) (take (length (l .out) - l .i) (drop (l .i) (l .out)))) (add-sub-cancel-left (l .i) m)
           ∙ ap (λ (q : ℕ). take m (drop (l .i) (a .src .now)) ++ drop q (take (length (l .out) - l .i) (drop (l .i) (l .out)))) (lm (a .out .now) (a .src .now) (l .out) (l .i) m (l .inv .4) (omega arith) (omega arith))),
     )
-
-same-length : tie.Need-same-length Inv-loop μ-loop
-same-length c = search needs
 
 returns : tie.Need-returns Inv-loop μ-loop
 returns c =
@@ -110,21 +72,6 @@ returns c =
 pub copy-front-spec : {M : Type 1} → statement M
 copy-front-spec =
     tie.close
-    (tie.spec
-    Inv-loop
-    μ-loop
-    loop-holds
-    sub-least
-    least-requires
-    add-e
-    sub-copy-block
-    part-copy-block-start
-    part-copy-block-end
-    sub-copy-block-2
-    part-copy-block-start-2
-    part-copy-block-end-2
-    copy-block-requires
-    loop-less
-    loop-again
-    same-length
-    returns)
+    (tie.spec Inv-loop μ-loop loop-holds (λ c. search needs) (λ c κs. search needs) (λ c. search needs)
+    (λ c. search needs) (λ c. search needs) (λ c. search needs) (λ c. search needs) (λ c. search needs)
+    (λ c. search needs) (λ c κs. search needs) (λ c. search needs) loop-again (λ c. search needs) returns)

@@ -9,15 +9,9 @@ returns : tie.Need-returns
 unfolding isSetup
 returns c = simp (lt-leb _ _ (c .if1 .taken))
 
-word-at-requires : tie.Need-word-at-requires
-word-at-requires c κs = search needs
-
 returns-2 : tie.Need-returns-2
 unfolding isSetup
 returns-2 c = simp (le-leb _ _ (c .before .before .if1 .left), ← (c .before .word-at .ensures), ne-eqb _ _ (c .if2 .taken))
-
-shared-slice-read-result : tie.Need-shared-slice-read-result
-shared-slice-read-result c = search needs
 
 returns-3 : tie.Need-returns-3
 unfolding isSetup
@@ -25,4 +19,4 @@ returns-3 c = simp (le-leb _ _ (c .before .before .before .if1 .left), ← (c .b
 
 pub is-setup-spec : {M : Type 1} → statement M
 is-setup-spec =
-    tie.close (tie.spec returns word-at-requires returns-2 shared-slice-read-result returns-3)
+    tie.close (tie.spec returns (λ c κs. search needs) returns-2 (λ c. search needs) returns-3)

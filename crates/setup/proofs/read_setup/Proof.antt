@@ -1,5 +1,5 @@
 -- `setup::read_setup` meets its contract.
-use Rattle.setup.proofs.Laws.{setup-there}
+use Rattle.setup.proofs.SetupBytes.{setup-there}
 use mathlib.Core.Path.{sym, _∙_}
 use native.Mathlib.Omega.{arith}
 use borrow.Author.Tests.{not-true, not-false}
@@ -7,9 +7,6 @@ use Rattle.setup.specs.Setup.{readSetup}
 use borrow.Author.Needs.{needs}
 use Rattle.setup.proofs.read_setup.Statement.{statement}
 use Rattle.setup.proofs.read_setup.Tie as tie
-
-is-setup-requires : tie.Need-is-setup-requires
-is-setup-requires c κs = search needs
 
 returns : tie.Need-returns
 unfolding readSetup
@@ -21,14 +18,8 @@ shared-slice-read-t8 c = omega (arith, setup-there _ (sym (c .before .before .is
 shared-slice-read-from-byte : tie.Need-shared-slice-read-from-byte
 shared-slice-read-from-byte c = omega (arith, setup-there _ (sym (c .before .before .before .is-setup .ensures) ∙ not-false (c .before .before .before .is-setup .result) (c .before .before .if1 .left)) .long)
 
-from-byte-requires : tie.Need-from-byte-requires
-from-byte-requires c κs = search needs
-
 shared-slice-read-from-byte-2 : tie.Need-shared-slice-read-from-byte-2
 shared-slice-read-from-byte-2 c = omega (arith, setup-there _ (sym (c .before .before .before .before .before .is-setup .ensures) ∙ not-false (c .before .before .before .before .before .is-setup .result) (c .before .before .before .before .if1 .left)) .long)
-
-from-byte-requires-2 : tie.Need-from-byte-requires-2
-from-byte-requires-2 c κs = search needs
 
 returns-2 : tie.Need-returns-2
 unfolding readSetup
@@ -37,12 +28,5 @@ returns-2 c = simp (← (c .before .before .before .before .before .before .is-s
 pub read-setup-spec : {M : Type 1} → statement M
 read-setup-spec =
     tie.close
-    (tie.spec
-    is-setup-requires
-    returns
-    shared-slice-read-t8
-    shared-slice-read-from-byte
-    from-byte-requires
-    shared-slice-read-from-byte-2
-    from-byte-requires-2
-    returns-2)
+    (tie.spec (λ c κs. search needs) returns shared-slice-read-t8 shared-slice-read-from-byte (λ c κs. search needs)
+    shared-slice-read-from-byte-2 (λ c κs. search needs) returns-2)

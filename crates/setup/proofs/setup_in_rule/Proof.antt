@@ -5,19 +5,13 @@ use borrow.Author.Needs.{needs}
 use Rattle.setup.proofs.setup_in_rule.Statement.{statement}
 use Rattle.setup.proofs.setup_in_rule.Tie as tie
 
-in-rule-requires : tie.Need-in-rule-requires
-in-rule-requires c κs = search needs
-
 returns : tie.Need-returns
 unfolding setupInRule
 returns c = simp (← (c .before .in-rule .ensures), not-true (c .before .in-rule .result) (c .if1 .taken))
-
-in-rule-requires-2 : tie.Need-in-rule-requires-2
-in-rule-requires-2 c κs = search needs
 
 returns-2 : tie.Need-returns-2
 unfolding setupInRule
 returns-2 c = simp (← (c .before .before .in-rule .ensures), not-false (c .before .before .in-rule .result) (c .before .if1 .left)) (c .in-rule2 .ensures)
 
 pub setup-in-rule-spec : {M : Type 1} → statement M
-setup-in-rule-spec = tie.close (tie.spec in-rule-requires returns in-rule-requires-2 returns-2)
+setup-in-rule-spec = tie.close (tie.spec (λ c κs. search needs) returns (λ c κs. search needs) returns-2)

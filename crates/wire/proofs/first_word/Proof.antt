@@ -9,12 +9,9 @@ returns : tie.Need-returns
 unfolding wordOf
 returns c = simp (lt-leb _ _ (c .if1 .taken))
 
-word-at-requires : tie.Need-word-at-requires
-word-at-requires c κs = search needs
-
 returns-2 : tie.Need-returns-2
 unfolding wordOf
 returns-2 c = simp (le-leb _ _ (c .before .if1 .left), c .word-at .ensures)
 
 pub first-word-spec : {M : Type 1} → statement M
-first-word-spec = tie.close (tie.spec returns word-at-requires returns-2)
+first-word-spec = tie.close (tie.spec returns (λ c κs. search needs) returns-2)

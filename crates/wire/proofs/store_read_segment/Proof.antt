@@ -11,26 +11,8 @@ use borrow.Author.Needs.{needs}
 use Rattle.wire.proofs.store_read_segment.Statement.{statement}
 use Rattle.wire.proofs.store_read_segment.Tie as tie
 
-add-words : tie.Need-add-words
-add-words c = search needs
-
-mul-words : tie.Need-mul-words
-mul-words c = search needs
-
-slice-write-words : tie.Need-slice-write-words
-slice-write-words c = search needs
-
-add-words-2 : tie.Need-add-words-2
-add-words-2 c = search needs
-
-mul-words-2 : tie.Need-mul-words-2
-mul-words-2 c = search needs
-
 slice-write-words-2 : tie.Need-slice-write-words-2
 slice-write-words-2 c = simp length-set (omega arith)
-
-add-store-segment : tie.Need-add-store-segment
-add-store-segment c = search needs
 
 store-segment-requires : tie.Need-store-segment-requires
 store-segment-requires c κs = simp length-set (omega arith)
@@ -50,14 +32,5 @@ returns c =
 pub store-read-segment-spec : {M : Type 1} → statement M
 store-read-segment-spec =
     tie.close
-    (tie.spec
-    add-words
-    mul-words
-    slice-write-words
-    add-words-2
-    mul-words-2
-    slice-write-words-2
-    add-store-segment
-    store-segment-requires
-    same-length
-    returns)
+    (tie.spec (λ c. search needs) (λ c. search needs) (λ c. search needs) (λ c. search needs) (λ c. search needs)
+    slice-write-words-2 (λ c. search needs) store-segment-requires same-length returns)

@@ -6,33 +6,12 @@ use lib.ListN.{length, take, drop, length-drop}
 use lib.Seq.{length-take-le}
 use borrow.Author.Needs.{needs}
 use Rattle.wire.specs.Wire.{wordBytes}
-use Rattle.wire.proofs.Laws.{then}
-use Rattle.lists.specs.Words.{segmentsIn}
-use Rattle.lists.proofs.Words.{length-segments}
-use Rattle.writer.specs.Bytes.{chunkBytes, countedBytes}
+use Rattle.wire.proofs.Fields.{then}
+use Rattle.chunk_lists.specs.Words.{segmentsIn}
+use Rattle.chunk_lists.proofs.Words.{length-segments}
+use Rattle.header.specs.Bytes.{chunkBytes, countedBytes}
 use Rattle.writer.proofs.encode_chunk.Statement.{statement}
 use Rattle.writer.proofs.encode_chunk.Tie as tie
-
-put-word-requires : tie.Need-put-word-requires
-put-word-requires c κs = search needs
-
-add-put-word : tie.Need-add-put-word
-add-put-word c = search needs
-
-cast-put-word : tie.Need-cast-put-word
-cast-put-word c = search needs
-
-put-word-requires-2 : tie.Need-put-word-requires-2
-put-word-requires-2 c κs = search needs
-
-add-encode-segments : tie.Need-add-encode-segments
-add-encode-segments c = search needs
-
-encode-segments-requires : tie.Need-encode-segments-requires
-encode-segments-requires c κs = search needs
-
-same-length : tie.Need-same-length
-same-length c = search needs
 
 returns : tie.Need-returns
 unfolding chunkBytes countedBytes wordBytes
@@ -45,12 +24,5 @@ returns c =
 pub encode-chunk-spec : {M : Type 1} → statement M
 encode-chunk-spec =
     tie.close
-    (tie.spec
-    put-word-requires
-    add-put-word
-    cast-put-word
-    put-word-requires-2
-    add-encode-segments
-    encode-segments-requires
-    same-length
-    returns)
+    (tie.spec (λ c κs. search needs) (λ c. search needs) (λ c. search needs) (λ c κs. search needs)
+    (λ c. search needs) (λ c κs. search needs) (λ c. search needs) returns)

@@ -6,13 +6,10 @@ use denote.Ref.{now}
 use lib.ListN.{length}
 use borrow.Author.Needs.{needs}
 use Rattle.wire.specs.Wire.{wordBytes}
-use Rattle.wire.proofs.Laws.{then}
-use Rattle.writer.specs.Bytes.{errorBytes}
+use Rattle.wire.proofs.Fields.{then}
+use Rattle.header.specs.Bytes.{errorBytes}
 use Rattle.writer.proofs.encode_error.Statement.{statement}
 use Rattle.writer.proofs.encode_error.Tie as tie
-
-enum-known-e : tie.Need-enum-known-e
-enum-known-e c = search needs
 
 -- There is room for the three words of a version error.
 room : (c : tie.After-e) → 28 ≤ length (now (c .before .before .before .args .out))
@@ -28,22 +25,13 @@ put-word-requires-2 c κs = let h = room (c .before .before .before .before .bef
 put-word-requires-3 : tie.Need-put-word-requires-3
 put-word-requires-3 c κs = let h = room (c .before .before .before .before .before .before .before .before .before .before) in omega arith
 
-enum-told : tie.Need-enum-told
-enum-told c = search needs
-
 put-word-requires-4 : tie.Need-put-word-requires-4
 unfolding errorBytes wordBytes
 put-word-requires-4 c κs = let h = simp (c .before .enum-told .given .1) at (c .before .before .before .before .pre) in omega arith
 
-same-length : tie.Need-same-length
-same-length c = search needs
-
 returns : tie.Need-returns
 unfolding errorBytes wordBytes
 returns c = rw (c .before .before .before .before .before .before .before .before .before .before .before .before .before .e .given .1) (refl, then _ _ _ _ _ _ _ (then _ _ _ _ _ _ _ (c .before .before .before .before .before .before .before .before .before .before .put-word .ensures) (c .before .before .before .before .before .before .put-word2 .ensures) refl) (c .before .before .put-word3 .ensures) refl)
-
-same-length-2 : tie.Need-same-length-2
-same-length-2 c = search needs
 
 returns-2 : tie.Need-returns-2
 unfolding errorBytes wordBytes
@@ -52,14 +40,5 @@ returns-2 c = rw (c .before .before .before .before .enum-told .given .1) (refl,
 pub encode-error-spec : {M : Type 1} → statement M
 encode-error-spec =
     tie.close
-    (tie.spec
-    enum-known-e
-    put-word-requires
-    put-word-requires-2
-    put-word-requires-3
-    enum-told
-    put-word-requires-4
-    same-length
-    returns
-    same-length-2
-    returns-2)
+    (tie.spec (λ c. search needs) put-word-requires put-word-requires-2 put-word-requires-3 (λ c. search needs)
+    put-word-requires-4 (λ c. search needs) returns (λ c. search needs) returns-2)

@@ -3,61 +3,38 @@ use mathlib.Core.Path.{refl}
 use denote.Ref.{now}
 use native.Mathlib.Omega.{arith}
 use borrow.Author.Needs.{needs}
-use Rattle.writer.proofs.Laws.{header-size, header-written, not-error, an-error}
+use Rattle.writer.proofs.HeaderWriting.{header-size, header-written}
+use Rattle.header.proofs.Bytes.{not-error, an-error}
 use Rattle.writer.proofs.encode_header.Statement.{statement}
 use Rattle.writer.proofs.encode_header.Tie as tie
 
-shared-slice-read-encode-fixed : tie.Need-shared-slice-read-encode-fixed
-shared-slice-read-encode-fixed c = search needs
-
-shared-slice-read-encode-fixed-2 : tie.Need-shared-slice-read-encode-fixed-2
-shared-slice-read-encode-fixed-2 c = search needs
-
 encode-fixed-requires : tie.Need-encode-fixed-requires
-encode-fixed-requires c κs = let a = c .before .before .before .before .before .args in let size = header-size (now (a .words)) (a .kind) (a .present) _ refl in search needs
-
-enum-known-kind : tie.Need-enum-known-kind
-enum-known-kind c = search needs
+encode-fixed-requires c κs = let a = c .before .before .before .args in let size = header-size (now (a .words)) (a .kind) (a .present) _ refl in search needs
 
 encode-lists-requires : tie.Need-encode-lists-requires
 encode-lists-requires c κs =
-    let a = c .before .before .before .before .before .before .before .before .before .before .args in
+    let a = c .before .before .before .before .before .before .before .before .args in
     let size = header-size (now (a .words)) (a .kind) (a .present) _ (not-error (a .kind) (c .before .match .keys2) _) in
-    (c .before .before .before .before .before .before .before .before .before .before .pre .0, c .before .before .before .before .before .before .before .before .before .before .pre .1, omega arith)
-
-same-length : tie.Need-same-length
-same-length c = search needs
+    (c .before .before .before .before .before .before .before .before .pre .0, c .before .before .before .before .before .before .before .before .pre .1, omega arith)
 
 returns : tie.Need-returns
 returns c =
-    let a = c .before .before .before .before .before .before .before .before .before .before .before .before .before .args in
+    let a = c .before .before .before .before .before .before .before .before .before .before .before .args in
     header-written (now (a .words)) (a .kind) (a .present) _ (not-error (a .kind) (c .before .before .before .before .match .keys2) _) _ _ _ _ (c .before .before .before .before .before .before .before .encode-fixed .ensures) (c .before .before .encode-lists .ensures)
 
 encode-error-requires : tie.Need-encode-error-requires
 encode-error-requires c κs =
-    let a = c .before .before .before .before .before .before .before .before .before .before .before .before .args in
+    let a = c .before .before .before .before .before .before .before .before .before .before .args in
     let size = header-size (now (a .words)) (a .kind) (a .present) _ (an-error (a .kind) _ (c .before .before .kind .given .1) _) in
     search needs
 
-same-length-2 : tie.Need-same-length-2
-same-length-2 c = search needs
-
 returns-2 : tie.Need-returns-2
 returns-2 c =
-    let a = c .before .before .before .before .before .before .before .before .before .before .before .before .before .before .before .args in
+    let a = c .before .before .before .before .before .before .before .before .before .before .before .before .before .args in
     header-written (now (a .words)) (a .kind) (a .present) _ (an-error (a .kind) _ (c .before .before .before .before .before .kind .given .1) _) _ _ _ _ (c .before .before .before .before .before .before .before .before .before .encode-fixed .ensures) (c .before .before .encode-error .ensures)
 
 pub encode-header-spec : {M : Type 1} → statement M
 encode-header-spec =
     tie.close
-    (tie.spec
-    shared-slice-read-encode-fixed
-    shared-slice-read-encode-fixed-2
-    encode-fixed-requires
-    enum-known-kind
-    encode-lists-requires
-    same-length
-    returns
-    encode-error-requires
-    same-length-2
-    returns-2)
+    (tie.spec encode-fixed-requires (λ c. search needs) encode-lists-requires (λ c. search needs) returns
+    encode-error-requires (λ c. search needs) returns-2)

@@ -2,17 +2,14 @@
 use denote.Ref.{now}
 use native.Mathlib.Omega.{arith}
 use borrow.Author.Needs.{needs}
-use Rattle.wire.proofs.Laws.{then}
-use Rattle.writer.proofs.Laws.{Passed, passed}
+use Rattle.wire.proofs.Fields.{then}
+use Rattle.writer.proofs.HeaderWriting.{Passed, passed}
 use Rattle.writer.proofs.encode_lists.Statement.{statement}
 use Rattle.writer.proofs.encode_lists.Tie as tie
 
 -- What is known of the three parts.
 known : (c : tie.Start) → Passed (now (c .args .words)) (c .args .present)
 known c = passed (now (c .args .words)) (c .args .present) (c .pre .0) (c .pre .1)
-
-shared-slice-read-n : tie.Need-shared-slice-read-n
-shared-slice-read-n c = search needs
 
 cast-n : tie.Need-cast-n
 cast-n c = let k = known (c .before .before .before) in search needs
@@ -26,26 +23,17 @@ mul-encode-write-list c = let k = known (c .before .before .before .before .befo
 add-encode-write-list : tie.Need-add-encode-write-list
 add-encode-write-list c = let k = known (c .before .before .before .before .before .before .before .before) in search needs
 
-shared-slice-read-encode-write-list : tie.Need-shared-slice-read-encode-write-list
-shared-slice-read-encode-write-list c = search needs
-
 cast-encode-write-list : tie.Need-cast-encode-write-list
 cast-encode-write-list c = let k = known (c .before .before .before .before .before .before .before .before .before) in search needs
 
 encode-write-list-requires : tie.Need-encode-write-list-requires
 encode-write-list-requires c κs = let k = known (c .before .before .before .before .before .before .before .before .before) in search needs
 
-shared-slice-read-encode-reply-chunk : tie.Need-shared-slice-read-encode-reply-chunk
-shared-slice-read-encode-reply-chunk c = search needs
-
 cast-encode-reply-chunk : tie.Need-cast-encode-reply-chunk
 cast-encode-reply-chunk c = let k = known (c .before .before .before .before .before .before .before .before .before .before .before .before .before .before) in search needs
 
 encode-reply-chunk-requires : tie.Need-encode-reply-chunk-requires
 encode-reply-chunk-requires c κs = let k = known (c .before .before .before .before .before .before .before .before .before .before .before .before .before .before) in search needs
-
-same-length : tie.Need-same-length
-same-length c = search needs
 
 returns : tie.Need-returns
 returns c =
@@ -55,17 +43,6 @@ returns c =
 pub encode-lists-spec : {M : Type 1} → statement M
 encode-lists-spec =
     tie.close
-    (tie.spec
-    shared-slice-read-n
-    cast-n
-    encode-read-list-requires
-    mul-encode-write-list
-    add-encode-write-list
-    shared-slice-read-encode-write-list
-    cast-encode-write-list
-    encode-write-list-requires
-    shared-slice-read-encode-reply-chunk
-    cast-encode-reply-chunk
-    encode-reply-chunk-requires
-    same-length
-    returns)
+    (tie.spec (λ c. search needs) cast-n encode-read-list-requires mul-encode-write-list add-encode-write-list
+    (λ c. search needs) cast-encode-write-list encode-write-list-requires (λ c. search needs) cast-encode-reply-chunk
+    encode-reply-chunk-requires (λ c. search needs) returns)

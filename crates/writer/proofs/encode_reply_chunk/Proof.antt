@@ -2,24 +2,12 @@
 use mathlib.Core.Path.{refl}
 use native.Mathlib.Omega.{arith}
 use borrow.Author.Needs.{needs}
-use Rattle.writer.specs.Bytes.{replyBytes}
+use Rattle.header.specs.Bytes.{replyBytes}
 use Rattle.writer.proofs.encode_reply_chunk.Statement.{statement}
 use Rattle.writer.proofs.encode_reply_chunk.Tie as tie
 
 encode-chunk-requires : tie.Need-encode-chunk-requires
 encode-chunk-requires c κs = let h = simp (c .before .if1 .taken) at (c .before .before .before .before .pre .2) in search needs
-
-add-result : tie.Need-add-result
-add-result c = search needs
-
-mul-result : tie.Need-mul-result
-mul-result c = search needs
-
-add-result-2 : tie.Need-add-result-2
-add-result-2 c = search needs
-
-same-length : tie.Need-same-length
-same-length c = search needs
 
 returns : tie.Need-returns
 unfolding replyBytes
@@ -28,12 +16,6 @@ returns c = rw (c .before .before .before .before .if1 .taken) (omega arith, c .
 put-word-requires : tie.Need-put-word-requires
 put-word-requires c κs = let h = simp (c .before .if1 .left) at (c .before .before .before .before .pre .2) in search needs
 
-add-result-3 : tie.Need-add-result-3
-add-result-3 c = search needs
-
-same-length-2 : tie.Need-same-length-2
-same-length-2 c = search needs
-
 returns-2 : tie.Need-returns-2
 unfolding replyBytes
 returns-2 c = rw (c .before .before .before .before .if1 .left) (refl, c .before .before .put-word .ensures)
@@ -41,14 +23,5 @@ returns-2 c = rw (c .before .before .before .before .if1 .left) (refl, c .before
 pub encode-reply-chunk-spec : {M : Type 1} → statement M
 encode-reply-chunk-spec =
     tie.close
-    (tie.spec
-    encode-chunk-requires
-    add-result
-    mul-result
-    add-result-2
-    same-length
-    returns
-    put-word-requires
-    add-result-3
-    same-length-2
-    returns-2)
+    (tie.spec encode-chunk-requires (λ c. search needs) (λ c. search needs) (λ c. search needs) (λ c. search needs)
+    returns put-word-requires (λ c. search needs) (λ c. search needs) returns-2)

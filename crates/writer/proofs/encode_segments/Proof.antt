@@ -8,10 +8,9 @@ use lib.ListN.{length-drop, length, take, drop}
 use borrow.Author.Needs.{needs}
 use Rattle.wire.specs.Wire.{stored, joined, segmentBytes, zeroSegment}
 use Rattle.wire.proofs.Joining.{stored-next}
-use Rattle.lists.specs.Words.{segmentsIn}
-use Rattle.lists.proofs.Words.{length-segments, segments-here}
-use Rattle.writer.proofs.Laws.{segment-length}
-use borrow.Author.Needs.{needs}
+use Rattle.chunk_lists.specs.Words.{segmentsIn}
+use Rattle.chunk_lists.proofs.Words.{length-segments, segments-here}
+use Rattle.header.proofs.Bytes.{segment-length}
 use Rattle.writer.proofs.encode_segments.Statement.{statement}
 use Rattle.writer.proofs.encode_segments.Tie as tie
 
@@ -25,30 +24,6 @@ loop-holds : tie.Need-loop-holds Inv-loop μ-loop
 unfolding stored joined
 loop-holds c = (search needs, refl, refl)
 
-mul-encode-segment : tie.Need-mul-encode-segment Inv-loop μ-loop
-mul-encode-segment c = search needs
-
-add-encode-segment : tie.Need-add-encode-segment Inv-loop μ-loop
-add-encode-segment c = search needs
-
-add-encode-segment-2 : tie.Need-add-encode-segment-2 Inv-loop μ-loop
-add-encode-segment-2 c = search needs
-
-mul-encode-segment-2 : tie.Need-mul-encode-segment-2 Inv-loop μ-loop
-mul-encode-segment-2 c = search needs
-
-add-encode-segment-3 : tie.Need-add-encode-segment-3 Inv-loop μ-loop
-add-encode-segment-3 c = search needs
-
-encode-segment-requires : tie.Need-encode-segment-requires Inv-loop μ-loop
-encode-segment-requires c κs = search needs
-
-add-j : tie.Need-add-j Inv-loop μ-loop
-add-j c = search needs
-
-loop-less : tie.Need-loop-less Inv-loop μ-loop
-loop-less c = search needs
-
 loop-again : tie.Need-loop-again Inv-loop μ-loop
 loop-again c =
     let a = c .before .before .before .before .before .before .before .before .args in
@@ -58,27 +33,12 @@ loop-again c =
     let next = getD-drop (a .i) l (here .j) zeroSegment ∙ segments-here (a .from) (now (a .words)) (a .i + here .j) (omega arith) in
     (search needs, search needs, stored-next segmentBytes 16 segment-length (drop (a .i) l) zeroSegment (here .j) (a .k) (rw length-drop (omega arith)) _ _ _ (here .inv .2) (rw next (c .before .before .encode-segment .ensures)))
 
-same-length : tie.Need-same-length Inv-loop μ-loop
-same-length c = search needs
-
 returns : tie.Need-returns Inv-loop μ-loop
 returns c = let e : c .before .loop .j ≡ c .before .before .before .before .args .n = omega arith in rw (← e) (c .before .loop .inv .2)
 
 pub encode-segments-spec : {M : Type 1} → statement M
 encode-segments-spec =
     tie.close
-    (tie.spec
-    Inv-loop
-    μ-loop
-    loop-holds
-    mul-encode-segment
-    add-encode-segment
-    add-encode-segment-2
-    mul-encode-segment-2
-    add-encode-segment-3
-    encode-segment-requires
-    add-j
-    loop-less
-    loop-again
-    same-length
-    returns)
+    (tie.spec Inv-loop μ-loop loop-holds (λ c. search needs) (λ c. search needs) (λ c. search needs)
+    (λ c. search needs) (λ c. search needs) (λ c κs. search needs) (λ c. search needs) (λ c. search needs) loop-again
+    (λ c. search needs) returns)

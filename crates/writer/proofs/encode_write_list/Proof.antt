@@ -7,16 +7,16 @@ use lib.ListN.{getD, length, take}
 use lib.Seq.{length-take-le}
 use borrow.Author.Needs.{needs}
 use Rattle.wire.specs.Wire.{stored, joined}
-use Rattle.wire.proofs.Laws.{then}
+use Rattle.wire.proofs.Fields.{then}
 use Rattle.wire.proofs.Joining.{joined-snoc}
-use Rattle.lists.specs.Words.{segmentsIn}
-use Rattle.lists.proofs.Words.{length-segments}
+use Rattle.chunk_lists.specs.Words.{segmentsIn}
+use Rattle.chunk_lists.proofs.Words.{length-segments}
 use Rattle.header.specs.Content.{runs}
-use Rattle.writer.specs.Write.{total}
-use Rattle.writer.specs.Words.{countsIn}
-use Rattle.writer.specs.Bytes.{chunkBytes, writeListBytes}
-use Rattle.writer.proofs.Laws.{total-next, total-within, runs-next, chunks-length, counts-long, count-here}
-use borrow.Author.Needs.{needs}
+use Rattle.header.specs.Limits.{total}
+use Rattle.header.specs.Words.{countsIn}
+use Rattle.header.specs.Bytes.{chunkBytes, writeListBytes}
+use Rattle.header.proofs.Limits.{total-next, total-within, counts-long, count-here}
+use Rattle.header.proofs.Bytes.{runs-next, chunks-length}
 use Rattle.writer.proofs.encode_write_list.Statement.{statement}
 use Rattle.writer.proofs.encode_write_list.Tie as tie
 
@@ -54,15 +54,6 @@ loop-holds : tie.Need-loop-holds Inv-loop μ-loop
 unfolding stored joined runs total
 loop-holds c = (search needs, refl, refl, omega arith, refl)
 
-add-d : tie.Need-add-d Inv-loop μ-loop
-add-d c = search needs
-
-mul-d : tie.Need-mul-d Inv-loop μ-loop
-mul-d c = search needs
-
-shared-slice-read-d : tie.Need-shared-slice-read-d Inv-loop μ-loop
-shared-slice-read-d c = search needs
-
 cast-d : tie.Need-cast-d Inv-loop μ-loop
 cast-d c = let small = c .shared-slice-known2 .given (224 + c .before .before .loop .j) in search needs
 
@@ -81,12 +72,6 @@ add-end-2 c = let h = few (c .before .before .before .before .before) in omega a
 add-used : tie.Need-add-used Inv-loop μ-loop
 add-used c = let h = few (c .before .before .before .before .before) in omega arith
 
-add-j : tie.Need-add-j Inv-loop μ-loop
-add-j c = search needs
-
-loop-less : tie.Need-loop-less Inv-loop μ-loop
-loop-less c = search needs
-
 loop-again : tie.Need-loop-again Inv-loop μ-loop
 loop-again c =
     let w = now (c .before .before .before .before .before .before .before .before .before .args .words) in
@@ -103,9 +88,6 @@ put-word-requires c κs = let u = all-used (c .before) in search needs
 add-result : tie.Need-add-result Inv-loop μ-loop
 add-result c = let u = all-used (c .before .before .before .before) in search needs
 
-same-length : tie.Need-same-length Inv-loop μ-loop
-same-length c = search needs
-
 returns : tie.Need-returns Inv-loop μ-loop
 unfolding writeListBytes
 returns c =
@@ -115,23 +97,6 @@ returns c =
 pub encode-write-list-spec : {M : Type 1} → statement M
 encode-write-list-spec =
     tie.close
-    (tie.spec
-    Inv-loop
-    μ-loop
-    loop-holds
-    add-d
-    mul-d
-    shared-slice-read-d
-    cast-d
-    encode-chunk-requires
-    mul-end
-    add-end
-    add-end-2
-    add-used
-    add-j
-    loop-less
-    loop-again
-    put-word-requires
-    add-result
-    same-length
-    returns)
+    (tie.spec Inv-loop μ-loop loop-holds (λ c. search needs) (λ c. search needs) (λ c. search needs) cast-d
+    encode-chunk-requires mul-end add-end add-end-2 add-used (λ c. search needs) (λ c. search needs) loop-again
+    put-word-requires add-result (λ c. search needs) returns)

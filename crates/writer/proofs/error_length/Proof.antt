@@ -1,15 +1,9 @@
 -- `writer::error_length` meets its contract.
 use borrow.Author.Needs.{needs}
 use Rattle.wire.specs.Wire.{wordBytes}
-use Rattle.writer.specs.Bytes.{errorBytes}
+use Rattle.header.specs.Bytes.{errorBytes}
 use Rattle.writer.proofs.error_length.Statement.{statement}
 use Rattle.writer.proofs.error_length.Tie as tie
-
-enum-told : tie.Need-enum-told
-enum-told c = search needs
-
-enum-told-2 : tie.Need-enum-told-2
-enum-told-2 c = search needs
 
 returns : tie.Need-returns
 unfolding errorBytes wordBytes
@@ -20,4 +14,4 @@ unfolding errorBytes wordBytes
 returns-2 c = simp (c .enum-told2 .given .1)
 
 pub error-length-spec : {M : Type 1} → statement M
-error-length-spec = tie.close (tie.spec enum-told enum-told-2 returns returns-2)
+error-length-spec = tie.close (tie.spec (λ c. search needs) (λ c. search needs) returns returns-2)

@@ -3,12 +3,6 @@ use borrow.Author.Needs.{needs}
 use Rattle.writer.proofs.reply_length.Statement.{statement}
 use Rattle.writer.proofs.reply_length.Tie as tie
 
-mul-result : tie.Need-mul-result
-mul-result c = search needs
-
-add-result : tie.Need-add-result
-add-result c = search needs
-
 returns : tie.Need-returns
 returns c = simp (c .if1 .taken)
 
@@ -16,4 +10,4 @@ returns-2 : tie.Need-returns-2
 returns-2 c = simp (c .if1 .left)
 
 pub reply-length-spec : {M : Type 1} → statement M
-reply-length-spec = tie.close (tie.spec mul-result add-result returns returns-2)
+reply-length-spec = tie.close (tie.spec (λ c. search needs) (λ c. search needs) returns returns-2)

@@ -5,19 +5,10 @@ use denote.Ref.{now}
 use lib.ListN.{length}
 use Rattle.header.specs.Words.{headerIn}
 use Rattle.header.proofs.Words.{full-of, header-back}
-use Rattle.writer.proofs.Laws.{none-written}
+use Rattle.writer.proofs.HeaderWriting.{none-written}
 use borrow.Author.Needs.{needs}
 use Rattle.writer.proofs.write_header.Statement.{statement}
 use Rattle.writer.proofs.write_header.Tie as tie
-
-words-of-requires : tie.Need-words-of-requires
-words-of-requires c κs = search needs
-
-write-words-requires : tie.Need-write-words-requires
-write-words-requires c κs = search needs
-
-same-length : tie.Need-same-length
-same-length c = search needs
 
 returns : tie.Need-returns
 returns c =
@@ -29,4 +20,4 @@ returns c =
     ((λ i. record { number = done .0 i; length = size i }), done .1 .1)
 
 pub write-header-spec : {M : Type 1} → statement M
-write-header-spec = tie.close (tie.spec words-of-requires write-words-requires same-length returns)
+write-header-spec = tie.close (tie.spec (λ c κs. search needs) (λ c κs. search needs) (λ c. search needs) returns)

@@ -9,23 +9,23 @@ use lib.Dec.{leb}
 use lib.ListN.{take, length, getD}
 use borrow.Author.Tests.{le-leb, lt-leb, not-true, not-false}
 use borrow.Author.Needs.{needs}
-use Rattle.wire.specs.Answers.{check}
-use Rattle.lists.specs.Lists.{positionsNumber}
-use Rattle.lists.specs.Words.{readsIn}
+use Rattle.answers.specs.Answers.{check}
+use Rattle.chunk_lists.specs.Lists.{positionsNumber}
+use Rattle.chunk_lists.specs.Words.{readsIn}
 use Rattle.header.specs.Content.{contentOf}
-use Rattle.header.specs.Words.{readCountAt, headerAs}
+use Rattle.header.specs.Words.{readCountAt, headerAs, countsIn}
 use Rattle.header.specs.declared.Header.{Header}
 use Rattle.writer.specs.Write.{writeNumber}
-use Rattle.writer.specs.Words.{limitsKept}
-use Rattle.writer.specs.Bytes.{headerBytes}
-use Rattle.writer.proofs.Laws.{Passed, passed, sized, positions-fault, positions-fine}
-use borrow.Author.Needs.{needs}
+use Rattle.writer.specs.Internal.Parts.{limitsKept}
+use Rattle.header.specs.Bytes.{headerBytes}
+use Rattle.writer.proofs.HeaderWriting.{Passed, passed, sized}
+use Rattle.chunk_lists.proofs.Positions.{positions-fault, positions-fine}
 use Rattle.writer.proofs.write_number.Statement.{statement}
 use Rattle.writer.proofs.write_number.Tie as tie
 
 -- The entry, from behind the check of the limits, and the header that the words hold.
 abbrev entry : tie.Else2 → tie.Start
-entry c = c .before .before .before .before .before .before .before .before
+entry c = c .before .before .before .before .before .before .before .before .before
 
 abbrev lent : tie.Else2 → List ℕ
 lent c = now (entry c .args .words)
@@ -35,7 +35,7 @@ held c = headerAs (lent c) (entry c .args .kind) (entry c .args .present)
 
 -- What that check has shown.
 within : (c : tie.Else2) → limitsKept (lent c) (entry c .args .present) ≡ true
-within c = sym (c .before .within-limits .ensures) ∙ not-false (c .before .within-limits .result) (c .if2 .left)
+within c = sym (c .before .within-limits .ensures (countsIn (lent c)) (c .before .before .total-count .ensures)) ∙ not-false (c .before .within-limits .result) (c .if2 .left)
 
 known : (c : tie.Else2) → Passed (lent c) (entry c .args .present)
 known c = passed (lent c) (entry c .args .present) (entry c .pre) (within c)
@@ -43,54 +43,41 @@ known c = passed (lent c) (entry c .args .present) (entry c .pre) (within c)
 -- The number then, and the number behind the check of the positions.
 then-positions : (c : tie.Else2) → let n = length (headerBytes (contentOf (held c))) in writeNumber (held c) (entry c .args .room) ≡ positionsNumber 0 (take (getD (lent c) readCountAt 0) (readsIn (lent c))) (check (leb n 1024) 21 (check (leb n (entry c .args .room)) 16 0))
 unfolding writeNumber contentOf
-then-positions c = simp (← (c .before .before .before .bare-if-error .ensures), not-false (c .before .before .before .bare-if-error .result) (c .before .before .if1 .left), within c)
+then-positions c = simp (← (c .before .before .before .before .bare-if-error .ensures), not-false (c .before .before .before .before .bare-if-error .result) (c .before .before .before .if1 .left), within c)
 
 then-length : (c : tie.After-header-length) → let n = c .header-length .result in writeNumber (held (c .before .before .before)) (entry (c .before .before .before) .args .room) ≡ check (leb n 1024) 21 (check (leb n (entry (c .before .before .before) .args .room)) 16 0)
 then-length c =
     let limits = c .before .before .before in
-    let size = sized (lent limits) (entry limits .args .kind) (entry limits .args .present) (c .header-length .result) (known limits) (c .header-length .ensures) in
-    then-positions limits ∙ simp (positions-fine 0 _ (sym (c .before .before .positions-in .ensures) ∙ c .before .if3 .left), size)
-
-shared-slice-read-reads : tie.Need-shared-slice-read-reads
-shared-slice-read-reads c = search needs
+    let size = sized (lent limits) (entry limits .args .kind) (entry limits .args .present) (c .header-length .result) (known limits) (λ parts e. c .header-length .ensures parts (rw (limits .before .before .total-count .ensures) e)) in
+    then-positions limits ∙ simp (positions-fine 0 _ (sym (c .before .before .check-positions .ensures) ∙ c .before .if3 .left), size)
 
 cast-reads : tie.Need-cast-reads
 cast-reads c = let small = c .shared-slice-known2 .given 228 in search needs
 
-shared-slice-read-chunks : tie.Need-shared-slice-read-chunks
-shared-slice-read-chunks c = search needs
-
 cast-chunks : tie.Need-cast-chunks
 cast-chunks c = let small = c .shared-slice-known3 .given 229 in search needs
 
-shared-slice-read-replies : tie.Need-shared-slice-read-replies
-shared-slice-read-replies c = search needs
-
 cast-replies : tie.Need-cast-replies
 cast-replies c = let small = c .shared-slice-known4 .given 231 in search needs
-
-bare-if-error-requires : tie.Need-bare-if-error-requires
-bare-if-error-requires c κs = search needs
 
 returns : tie.Need-returns
 unfolding writeNumber
 returns c = simp (← (c .before .bare-if-error .ensures), not-true (c .before .bare-if-error .result) (c .if1 .taken))
 
-within-limits-requires : tie.Need-within-limits-requires
-within-limits-requires c κs = search needs
-
 returns-2 : tie.Need-returns-2
 unfolding writeNumber
-returns-2 c = simp (← (c .before .before .before .bare-if-error .ensures), not-false (c .before .before .before .bare-if-error .result) (c .before .before .if1 .left), ← (c .before .within-limits .ensures), not-true (c .before .within-limits .result) (c .if2 .taken))
+returns-2 c =
+    let limits = c .before .within-limits .ensures (countsIn (now (c .before .before .before .before .before .before .before .before .before .args .words))) (c .before .before .total-count .ensures) in
+    simp (← (c .before .before .before .before .bare-if-error .ensures), not-false (c .before .before .before .before .bare-if-error .result) (c .before .before .before .if1 .left), ← limits, not-true (c .before .within-limits .result) (c .if2 .taken))
 
-positions-in-requires : tie.Need-positions-in-requires
-positions-in-requires c κs = let k = known c in (k .few-reads, omega arith)
+check-positions-requires : tie.Need-check-positions-requires
+check-positions-requires c κs = let k = known c in (k .few-reads, omega arith)
 
 returns-3 : tie.Need-returns-3
-returns-3 c = sym (then-positions (c .before .before) ∙ positions-fault 0 _ (λ e. c .if3 .taken (c .before .positions-in .ensures ∙ e)) _ ∙ sym (c .before .positions-in .ensures))
+returns-3 c = sym (then-positions (c .before .before) ∙ positions-fault 0 _ (λ e. c .if3 .taken (c .before .check-positions .ensures ∙ e)) _ ∙ sym (c .before .check-positions .ensures))
 
 header-length-requires : tie.Need-header-length-requires
-header-length-requires c κs = let k = known (c .before .before) in (c .before .before .before .before .before .before .before .before .before .before .pre, k .few-reads, k .few-chunks, k .few-segments, k .few-replies)
+header-length-requires c κs = let k = known (c .before .before) in (k .few-reads, k .few-chunks, rw (c .before .before .before .before .total-count .ensures) (k .few-segments), k .few-replies)
 
 returns-4 : tie.Need-returns-4
 returns-4 c = sym (then-length (c .before) ∙ simp (lt-leb _ _ (c .if4 .taken)))
@@ -104,20 +91,6 @@ returns-6 c = sym (then-length (c .before .before) ∙ simp (le-leb _ _ (c .befo
 pub write-number-spec : {M : Type 1} → statement M
 write-number-spec =
     tie.close
-    (tie.spec
-    shared-slice-read-reads
-    cast-reads
-    shared-slice-read-chunks
-    cast-chunks
-    shared-slice-read-replies
-    cast-replies
-    bare-if-error-requires
-    returns
-    within-limits-requires
-    returns-2
-    positions-in-requires
-    returns-3
-    header-length-requires
-    returns-4
-    returns-5
-    returns-6)
+    (tie.spec (λ c. search needs) cast-reads (λ c. search needs) cast-chunks (λ c. search needs) cast-replies
+    (λ c κs. search needs) returns (λ c κs. search needs) (λ c κs. search needs) returns-2 check-positions-requires
+    returns-3 header-length-requires returns-4 returns-5 returns-6)

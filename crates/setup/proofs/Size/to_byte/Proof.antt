@@ -1,5 +1,5 @@
 -- `setup::Size::to_byte` meets its contract.
-use Rattle.setup.proofs.Laws.{in-rule}
+use Rattle.setup.proofs.SetupBytes.{in-rule}
 use native.Mathlib.Omega.{arith}
 use borrow.Author.Needs.{needs}
 use Rattle.setup.proofs.Size.to_byte.Statement.{statement}

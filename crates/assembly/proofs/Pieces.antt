@@ -1,0 +1,101 @@
+-- What a piece and an asking answer, from what the checks of the state have found.
+-- Assumes nothing.
+use mathlib.Core.Path.{_≡_, refl, sym, ap, _∙_}
+use mathlib.Core.Bool.{Bool, true, false, cond}
+use mathlib.Core.List.{List, []}
+use Prim.Native.Nat.{ℕ, _+_, _≤_, _<_}
+use native.Mathlib.Omega.{arith}
+use borrow.Author.Tests.{le-leb, lt-leb, eq-eqb, ne-eqb, eqb-true}
+use lib.ListN.{length, take, drop}
+use lib.Dec.{leb, eqb}
+use Rattle.answers.proofs.Checks.{both-hold, check-passed}
+use Rattle.chunk_lists.specs.Lists.{positionsNumber}
+use Rattle.layout.specs.Places.{scatter}
+use Rattle.layout.specs.Layout.{messageLength, anyAtZero, placeNumber}
+use Rattle.placing.specs.Internal.Sources.{sourcePlaces}
+use Rattle.assembly_state.specs.State.{State}
+use Rattle.assembly.specs.Assembly.{readsOf, chunksOf, pulledOf, canArise, fitsState, pieceNumber, pieceBuffer, messageNumber, messagePart, pieceWords}
+use Rattle.assembly.specs.Internal.StateCheck.{isNomsg, Fitting, pieceAnswer, messageAnswer}
+use Rattle.assembly.specs.declared.StateCheck.{StateCheck}
+use Rattle.assembly.specs.declared.PieceAnswer.{PieceAnswer}
+use Rattle.wire.specs.Wire.{stored}
+use Rattle.wire.specs.Words.{numberWords}
+use Rattle.assembly_state.specs.Words.{stateIn, withTaken}
+use Rattle.layout.proofs.Passed.{place-passed}
+
+-- The places that are filled are the pulled ones.
+pub known-places : (s : State) (room : ℕ) (r : StateCheck) (b : Bool) → Fitting s room r → b ≡ isNomsg (s .kind) → sourcePlaces b (s .base) (chunksOf s) ≡ pulledOf s
+known-places s room r b k e = rw e (sym (k .places))
+
+module _ (s : State) (piece out : List ℕ) where
+  pub take-unfit : fitsState s (length out) ≡ false → (record { taken = s .taken; number = 17 } ≡ pieceAnswer s (length out) (length piece)) × (out ≡ pieceBuffer s piece out)
+  unfolding pieceBuffer pieceNumber
+  take-unfit f = simp f (refl, refl)
+
+  pub take-long : fitsState s (length out) ≡ true → length (pulledOf s) < s .taken + length piece → (record { taken = s .taken; number = 18 } ≡ pieceAnswer s (length out) (length piece)) × (out ≡ pieceBuffer s piece out)
+  unfolding pieceBuffer pieceNumber
+  take-long f h = simp (f, lt-leb (s .taken + length piece) (length (pulledOf s)) h) (refl, refl)
+
+  pub take-done : fitsState s (length out) ≡ true → s .taken + length piece ≤ length (pulledOf s) → (after : List ℕ) → after ≡ scatter (drop (s .taken) (pulledOf s)) piece out →
+      (record { taken = s .taken + length piece; number = 0 } ≡ pieceAnswer s (length out) (length piece)) × (after ≡ pieceBuffer s piece out)
+  unfolding pieceBuffer pieceNumber
+  take-done f h after e = simp (f, le-leb (s .taken + length piece) (length (pulledOf s)) h) (refl, e)
+
+module _ (s : State) (room : ℕ) where
+  within : messageNumber s room ≡ 0 → messageLength (s .base) (chunksOf s) ≤ room
+  unfolding messageNumber canArise
+  within e =
+      let fit = both-hold (canArise s) _ (check-passed (fitsState s room) 17 _ (omega arith) e .0) in
+      let a = both-hold (leb (s .reads .count) 16) _ (fit .0) in
+      let b = both-hold (eqb (positionsNumber 0 (readsOf s) 0) 0) _ (a .1) in
+      let d = both-hold (eqb (placeNumber (s .kind) (anyAtZero (readsOf s)) (s .base) (chunksOf s) (s .buffer)) 0) _ (b .1) in
+      let p = place-passed (s .kind) (anyAtZero (readsOf s)) (s .base) (chunksOf s) (s .buffer) (eqb-true _ _ (d .0)) in
+      let same = eqb-true (s .buffer) room (fit .1) in
+      let holds = p .holds in
+      omega arith
+
+  pub ask-unfit : fitsState s room ≡ false → record { length = 0; number = 17 } ≡ messageAnswer s room
+  unfolding messageAnswer messageNumber
+  ask-unfit f = simp f
+
+  pub ask-early : fitsState s room ≡ true → (s .taken ≡ length (pulledOf s) → ⊥) → record { length = 0; number = 19 } ≡ messageAnswer s room
+  unfolding messageAnswer messageNumber
+  ask-early f h = simp (f, ne-eqb _ _ h)
+
+  pub ask-done : fitsState s room ≡ true → s .taken ≡ length (pulledOf s) → record { length = messageLength (s .base) (chunksOf s); number = 0 } ≡ messageAnswer s room
+  unfolding messageAnswer messageNumber
+  ask-done f h = simp (f, eq-eqb _ _ h)
+
+  -- A message that is handed out lies within the buffer.
+  pub asked-within : messageAnswer s room .length ≤ room
+  unfolding messageAnswer
+  asked-within = by (eqb (messageNumber s room) 0) refl
+    where
+      by : (b : Bool) → eqb (messageNumber s room) 0 ≡ b → cond b (messageLength (s .base) (chunksOf s)) 0 ≤ room
+      by true e = within (eqb-true _ _ e)
+      by false e = omega arith
+
+-- The message is as long as asking says, and lies in the buffer.
+pub message-part : (s : State) (out : List ℕ) → take (messageAnswer s (length out) .length) out ≡ messagePart s out
+unfolding messageAnswer messagePart
+message-part s out = by (eqb (messageNumber s (length out)) 0)
+  where
+    by : (b : Bool) → take (cond b (messageLength (s .base) (chunksOf s)) 0) out ≡ cond b (take (messageLength (s .base) (chunksOf s)) out) []
+    by true = refl
+    by false = refl
+
+-- What a piece leaves of the words, from what it answers.
+module _ (w : List ℕ) (room size : ℕ) (t : PieceAnswer) (is : t ≡ pieceAnswer (stateIn w) room size) where
+  number-is : t .number ≡ pieceNumber (stateIn w) room size
+  number-is = ap (λ (x : PieceAnswer). x .number) is
+
+  pub words-kept : (t .number ≡ 0 → ⊥) → (t .number ≡ pieceNumber (stateIn w) room size) × (w ≡ pieceWords w room size)
+  unfolding pieceWords
+  words-kept n = (number-is, rw (ne-eqb (pieceNumber (stateIn w) room size) 0 (λ e. n (number-is ∙ e))))
+
+  pub words-counted : t .number ≡ 0 → (after : List ℕ) → after ≡ stored w 100 (numberWords (t .taken)) → (0 ≡ pieceNumber (stateIn w) room size) × (after ≡ pieceWords w room size)
+  unfolding pieceWords withTaken
+  words-counted z after e =
+      let zero-number : pieceNumber (stateIn w) room size ≡ 0 = sym number-is ∙ z in
+      let more : t .taken ≡ stateIn w .taken + size = ap (λ (x : PieceAnswer). x .taken) is ∙ rw zero-number in
+      (sym zero-number, e ∙ rw (more, zero-number))

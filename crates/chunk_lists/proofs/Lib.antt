@@ -1,0 +1,5 @@
+pub mod Items
+pub mod ListSteps
+pub mod ListBytes
+pub mod Positions
+pub mod Words

@@ -1,0 +1,4 @@
+pub mod Parsed
+pub mod Lists
+pub mod Words
+pub mod Internal

@@ -1,0 +1,2 @@
+pub mod ReplyTable
+pub mod ReplyRead

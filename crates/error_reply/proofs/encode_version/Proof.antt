@@ -1,0 +1,16 @@
+-- `error_reply::encode_version` meets its contract.
+use Rattle.wire.proofs.Fields.{then}
+use mathlib.Core.Path.{refl}
+use Rattle.wire.specs.Wire.{words, joined, wordBytes}
+use borrow.Author.Needs.{needs}
+use Rattle.error_reply.proofs.encode_version.Statement.{statement}
+use Rattle.error_reply.proofs.encode_version.Tie as tie
+
+returns : tie.Need-returns
+unfolding words joined wordBytes
+returns c = then _ _ _ _ _ _ _ (then _ _ _ _ _ _ _ (c .before .before .before .before .before .before .before .before .before .before .encode-common .ensures) (c .before .before .before .before .before .before .put-word .ensures) refl) (c .before .before .put-word2 .ensures) refl
+
+pub encode-version-spec : {M : Type 1} → statement M
+encode-version-spec =
+    tie.close
+    (tie.spec (λ c κs. search needs) (λ c κs. search needs) (λ c κs. search needs) (λ c. search needs) returns)

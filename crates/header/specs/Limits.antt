@@ -1,0 +1,17 @@
+-- The limits of a header (document 01, "The header on the wire").
+use Prim.Native.Nat.{ℕ, _+_}
+use mathlib.Core.Bool.{Bool, cond, _&&_}
+use mathlib.Core.List.{List, [], _∷_}
+use lib.ListN.{take}
+use lib.Dec.{leb}
+use Rattle.chunk_lists.specs.Lists.{maxReadSegments, maxWriteChunks, maxWriteSegments, maxReplySegments}
+
+-- The segments of all chunks together.
+unfoldable pub total : List ℕ → ℕ
+total [] = 0
+total (n ∷ ns) = n + total ns
+
+-- "7 (also segments in an absent reply chunk)": the limits of a header that is to be written.
+unfoldable pub withinLimits : ℕ → ℕ → List ℕ → Bool → ℕ → Bool
+withinLimits reads chunks counts present replies =
+    leb reads maxReadSegments && (leb chunks maxWriteChunks && (leb (total (take chunks counts)) maxWriteSegments && leb replies (cond present maxReplySegments 0)))

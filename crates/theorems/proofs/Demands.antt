@@ -1,0 +1,144 @@
+-- The page to read first: every top theorem once more, each with the sentence that it answers. Its proof is named behind the last `=`.
+-- Demand 1 is met by the contracts of the calls themselves, which ask nothing of a caller.
+-- Assumes nothing.
+use mathlib.Core.Path.{_≡_}
+use mathlib.Core.Bool.{true}
+use mathlib.Core.List.{List, [], _++_}
+use mathlib.Core.Option.{some}
+use Prim.Native.Nat.{ℕ, _+_, _-_, _/_, _≤_}
+use lib.ListN.{length, getD, take, drop}
+use Rattle.wire.specs.Wire.{wordAt}
+use Rattle.wire.specs.Fits.{AllBytes, AllWords, All, Word32}
+use Rattle.wire.specs.declared.ReadSegment.{ReadSegment}
+use Rattle.chunk_lists.specs.Parsed.{done}
+use Rattle.header.specs.Content.{Content, headerOf}
+use Rattle.header.specs.Fits.{Representable, zeroed}
+use Rattle.header.specs.Words.{headerIn, headerWords}
+use Rattle.header.specs.declared.Header.{Header}
+use Rattle.header.specs.declared.ErrorKind.{ErrorKind}
+use Rattle.reader.specs.Frame.{readFrame, readAnswer, readNumber, readWords, payloadOf, errorContent}
+use Rattle.writer.specs.Write.{writeNumber, writeAnswer, writeBuffer, writeWordsAnswer, writeWordsBuffer}
+use Rattle.writer.proofs.RoundTrip as header-trip
+use Rattle.setup.specs.Setup.{readSetup, writeSetupNumber, writeSetupAnswer, writeSetupBuffer}
+use Rattle.setup.specs.declared.Setup.{Setup}
+use Rattle.setup.proofs.RoundTrip as setup-trip
+use Rattle.credit.specs.Credit.{granted}
+use Rattle.error_reply.specs.Reply.{replyKindFor, errorReply, errorReplyNumber, errorReplyAnswer, errorReplyBuffer}
+use Rattle.error_reply.specs.Meant.{meant}
+use Rattle.error_reply.specs.declared.ReplyKind.the-variants as reply
+use Rattle.error_reply.proofs.ReplyRead as reply-read
+use Rattle.layout.specs.Layout.{otherChunks}
+use Rattle.layout.specs.Once.{Once}
+use Rattle.assembly_start.specs.Start.{baseOf, startNumber, startAnswer}
+use Rattle.c_header.specs.Part.{partOf}
+use Rattle.c_header.proofs.RoundTrip as c-header
+use Rattle.c_setup.specs.Words.{setupWords, writeSetupWordsAnswer, writeSetupWordsBuffer, Stores}
+use Rattle.c_setup.proofs.RoundTrip as c-setup
+use Rattle.theorems.specs.Calls.{Call, startThen}
+use Rattle.theorems.specs.Cuts.{CutOf}
+use Rattle.theorems.specs.Demands.{takenBytes, Finished, Unchanged}
+use Rattle.theorems.specs.Exports.{exportThen}
+use Rattle.theorems.specs.Examples.{Holds, examples, numbers, edges}
+use Rattle.theorems.proofs.Message as message
+use Rattle.theorems.proofs.Demand3 as demand-three
+use Rattle.theorems.proofs.Exports as exports
+use Rattle.theorems.proofs.Examples as worked
+
+-- Demand 2, headers: "The writer writes no payload: what was read, written again, gives the frame's bytes before its payload."
+pub demand-2-header-read-written : (frame out : List ℕ) (c : Content) (payload : List ℕ) → AllBytes frame → readFrame frame ≡ done c payload → length frame ≤ length out + length payload →
+    (writeAnswer (headerOf c) (length out) ≡ record { number = 0; length = length frame - length payload })
+    × (writeBuffer (headerOf c) out ≡ take (length frame - length payload) frame ++ drop (length frame - length payload) out)
+demand-2-header-read-written = header-trip.read-written
+
+-- "reading back what was written gives the header with these zeroed"
+pub demand-2-header-written-read : (h : Header) (out : List ℕ) → Representable h → writeNumber h (length out) ≡ 0 →
+    (readAnswer (readFrame (take (writeAnswer h (length out) .length) (writeBuffer h out))) ≡ record { header = zeroed h; number = 0 })
+    × (payloadOf (readFrame (take (writeAnswer h (length out) .length) (writeBuffer h out))) ≡ [])
+demand-2-header-written-read = header-trip.written-read-answer
+
+-- Demand 2, setup data: "Setup data that was there, read and written again, gives its 8 bytes back if the ignored flags were 0."
+pub demand-2-setup-read-written : (bytes out : List ℕ) → AllBytes bytes → readSetup bytes .present ≡ true → getD bytes 5 0 / 2 ≡ 0 → 8 ≤ length out →
+    (writeSetupAnswer (readSetup bytes .setup) (length out) ≡ record { number = 0; length = 8 })
+    × (writeSetupBuffer (readSetup bytes .setup) out ≡ take 8 bytes ++ drop 8 out)
+demand-2-setup-read-written = setup-trip.setup-read-written
+
+-- "each undoes the other": from the whole buffer, and from the bytes that were written alone.
+pub demand-2-setup-written-read : (x : Setup) (out : List ℕ) → writeSetupNumber x (length out) ≡ 0 →
+    (readSetup (writeSetupBuffer x out) ≡ record { setup = x; present = true; number = 0 })
+    × (readSetup (take (writeSetupAnswer x (length out) .length) (writeSetupBuffer x out)) ≡ record { setup = x; present = true; number = 0 })
+demand-2-setup-written-read = setup-trip.setup-written-read
+
+-- Demand 2, messages: "A finished message, its state and buffer handed on unaltered from call to call since its accepted start, holds each inline byte, pulled byte and padding byte at its defined place, once; bytes behind its end are untouched."
+pub demand-2-message : (frame out : List ℕ) (c : Content) (inline : List ℕ) → AllBytes frame → readFrame frame ≡ done c inline → startAnswer (readFrame frame) (length out) .number ≡ 0 →
+    (calls : List Call) → startThen frame out calls .asked .number ≡ 0 → Finished c inline out (takenBytes calls (startThen frame out calls .outcomes)) (startThen frame out calls)
+demand-2-message = message.finished
+
+-- "at its defined place, once"
+pub demand-2-once : (frame out : List ℕ) (c : Content) (inline : List ℕ) → AllBytes frame → readFrame frame ≡ done c inline → startAnswer (readFrame frame) (length out) .number ≡ 0 →
+    Once (baseOf c inline) (otherChunks (c .reads))
+demand-2-once = message.places-once
+
+-- Demand 3: "Cutting changes nothing. Take any accepted start and any cut of its read list as 01 defines it"
+pub demand-3 : (frame out : List ℕ) (c : Content) (inline : List ℕ) → AllBytes frame → readFrame frame ≡ done c inline → startAnswer (readFrame frame) (length out) .number ≡ 0 →
+    (cut : List ReadSegment) → CutOf (c .reads) cut → Unchanged (λ f. startThen f out) frame out c inline cut
+demand-3 = demand-three.cutting-changes-nothing
+
+-- The same through the exports. Headers: the words that `eos_read_header` stored, lent to `eos_write_header`; and the other way.
+pub exports-header-read-written : (frame out before : List ℕ) (c : Content) (payload : List ℕ) → AllBytes frame → readFrame frame ≡ done c payload → length frame ≤ length out + length payload →
+    (writeWordsAnswer (headerIn (readWords (readFrame frame) before)) (length out) ≡ record { number = 0; length = length frame - length payload })
+    × (writeWordsBuffer (headerIn (readWords (readFrame frame) before)) out ≡ take (length frame - length payload) frame ++ drop (length frame - length payload) out)
+exports-header-read-written = c-header.export-read-written
+
+pub exports-header-written-read : (w out before : List ℕ) (h : Header) → AllWords w → length w ≡ 238 → headerIn w ≡ some h → writeWordsAnswer (headerIn w) (length out) .number ≡ 0 →
+    (readNumber (readFrame (take (writeWordsAnswer (headerIn w) (length out) .length) (writeWordsBuffer (headerIn w) out))) ≡ 0)
+    × (readWords (readFrame (take (writeWordsAnswer (headerIn w) (length out) .length) (writeWordsBuffer (headerIn w) out))) before ≡ headerWords (zeroed h))
+    × (payloadOf (readFrame (take (writeWordsAnswer (headerIn w) (length out) .length) (writeWordsBuffer (headerIn w) out))) ≡ [])
+exports-header-written-read = c-header.export-written-read
+
+-- The payload lies where `eos_payload` says.
+pub exports-payload : (frame : List ℕ) → AllBytes frame →
+    take (partOf frame (payloadOf (readFrame frame)) .length) (drop (partOf frame (payloadOf (readFrame frame)) .offset) frame) ≡ payloadOf (readFrame frame)
+exports-payload = c-header.payload-there
+
+-- Setup data.
+pub exports-setup-read-written : (bytes out : List ℕ) → AllBytes bytes → readSetup bytes .present ≡ true → getD bytes 5 0 / 2 ≡ 0 → 8 ≤ length out →
+    (writeSetupWordsAnswer (setupWords (readSetup bytes .setup)) (length out) ≡ record { number = 0; length = 8 })
+    × (writeSetupWordsBuffer (setupWords (readSetup bytes .setup)) out ≡ take 8 bytes ++ drop 8 out)
+exports-setup-read-written = c-setup.export-read-written
+
+pub exports-setup-written-read : (w out : List ℕ) → length w ≡ 3 → writeSetupWordsAnswer w (length out) .number ≡ 0 →
+    Stores w (readSetup (writeSetupWordsBuffer w out)) × Stores w (readSetup (take (writeSetupWordsAnswer w (length out) .length) (writeSetupWordsBuffer w out)))
+exports-setup-written-read = c-setup.export-written-read
+
+-- A reassembly by the exports gives what the library's gives, whatever the caller's state and length held before.
+pub exports-assembly : (frame out before : List ℕ) (size : ℕ) (c : Content) (inline : List ℕ) → readFrame frame ≡ done c inline → startNumber (readFrame frame) (length out) ≡ 0 →
+    (calls : List Call) → exportThen frame out before size calls ≡ startThen frame out calls
+exports-assembly = exports.exports-same
+
+-- Demand 2's message, and demand 3 with all that it says.
+pub exports-message : (frame out before : List ℕ) (size : ℕ) (c : Content) (inline : List ℕ) → AllBytes frame → readFrame frame ≡ done c inline → startNumber (readFrame frame) (length out) ≡ 0 →
+    (calls : List Call) → exportThen frame out before size calls .asked .number ≡ 0 → Finished c inline out (takenBytes calls (exportThen frame out before size calls .outcomes)) (exportThen frame out before size calls)
+exports-message = exports.exports-finished
+
+pub exports-demand-3 : (frame out before : List ℕ) (size : ℕ) (c : Content) (inline : List ℕ) → AllBytes frame → readFrame frame ≡ done c inline → startNumber (readFrame frame) (length out) ≡ 0 →
+    (cut : List ReadSegment) → CutOf (c .reads) cut → Unchanged (λ f. exportThen f out before size) frame out c inline cut
+exports-demand-3 = exports.exports-unchanged
+
+-- A reply that was written reads back as the ERROR header that it is meant to be, and is itself never answered.
+pub reply-reads-back : (frame out : List ℕ) (number limit : ℕ) (e : ErrorKind) → AllBytes frame → Word32 limit → errorReplyNumber frame number limit (length out) ≡ 0 → meant (replyKindFor frame number) ≡ some e →
+    (readAnswer (readFrame (take (errorReplyAnswer frame number limit (length out) .length) (errorReplyBuffer frame number limit out))) ≡ record { header = headerOf (errorContent e (wordAt frame 0) (granted (wordAt frame 8) limit)); number = 0 })
+    × (payloadOf (readFrame (take (errorReplyAnswer frame number limit (length out) .length) (errorReplyBuffer frame number limit out))) ≡ [])
+reply-reads-back = reply-read.reply-read-answer
+
+pub reply-never-answered : (frame : List ℕ) (number limit later : ℕ) → replyKindFor (errorReply frame number limit) later ≡ reply.None
+reply-never-answered = reply-read.reply-unanswered
+
+-- "C1 to C13 are proved from the definitions as one list with one claim over it."; each other number of the table is given once; and the order of the checks, the ends of the limits, the places of bytes and words.
+pub examples-hold : All Holds examples
+examples-hold = worked.worked
+
+pub numbers-given : All Holds numbers
+numbers-given = worked.numbered
+
+pub edges-hold : All Holds edges
+edges-hold = worked.edged

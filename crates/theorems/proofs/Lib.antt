@@ -1,0 +1,12 @@
+pub mod Examples
+pub mod Cutting
+pub mod Lent
+pub mod Tallied
+pub mod Started
+pub mod Message
+pub mod Demand3
+pub mod Exports
+pub mod MessageBuffer
+pub mod TallySettles
+pub mod CutFrame
+pub mod Demands

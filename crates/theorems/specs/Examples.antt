@@ -1,0 +1,284 @@
+-- "Frames and messages worked through" (document 01): each example as one entry of one list.
+use Prim.Native.Nat.{ℕ, _+_, _*_}
+use mathlib.Core.Path.{_≡_}
+use mathlib.Core.List.{List, [], _∷_, _++_, map}
+use mathlib.Core.Bool.{Bool, true, false}
+use lib.ListN.{length, take, getD, replicate}
+use Rattle.wire.specs.Wire.{words, zeroSegment}
+use Rattle.reader.specs.Frame.{readFrame, readAnswer, payloadOf}
+use Rattle.header.specs.Content.{headerOf, nothing}
+use Rattle.header.specs.declared.Header.{Header}
+use Rattle.header.specs.declared.Kind.the-variants.{Msg, Error}
+use Rattle.writer.specs.Write.{writeAnswer, writeBuffer}
+use Rattle.assembly.specs.Assembly.{pieceNumber}
+use Rattle.assembly_state.specs.Words.{stateIn}
+use Rattle.assembly_start.specs.Start.{startAnswer}
+use Rattle.theorems.specs.Calls.{Call, piece, asking, Outcome, gives, startThen}
+use Rattle.setup.specs.Setup.{readSetup, writeSetupAnswer, agreement}
+use Rattle.setup.specs.declared.SetupAnswer.{SetupAnswer}
+use Rattle.credit.specs.Credit.{grantAnswer}
+use Rattle.error_reply.specs.Reply.{errorReplyAnswer, errorReplyBuffer, replyKindOf}
+use mathlib.Core.Option.{none, some}
+use Rattle.wire.specs.Fits.{All}
+use Rattle.header.specs.Words.{headerWords}
+use Rattle.header.specs.declared.Kind.{Kind}
+use Rattle.header.specs.declared.ErrorKind.the-variants as error
+use Rattle.setup.specs.declared.Setup.{Setup}
+use Rattle.setup.specs.declared.Agreement.{Agreement}
+use Rattle.error_reply.specs.declared.ReplyKind.{ReplyKind}
+use Rattle.error_reply.specs.declared.ReplyKind.the-variants.{None, Version, Chunk}
+use Rattle.layout.specs.Places.{from}
+use Rattle.c_setup.specs.Words.{agreementWords}
+
+-- What a worked example says.
+pub data Example : Type 0 where
+  -- reading a frame gives a number and a payload
+  frame-reads : List ℕ → ℕ → List ℕ → Example
+  -- writing a header into as many bytes gives 0 and uses them all, and reading them gives the header again
+  header-takes : Header → ℕ → Example
+  -- the error reply to a frame with an answer number and a limit, written into as many bytes, is these
+  replied : List ℕ → ℕ → ℕ → List ℕ → Example
+  -- a start over a frame and a buffer of so many bytes gives a number
+  starts : List ℕ → ℕ → ℕ → Example
+  -- it is accepted, and these calls then give these answers
+  assembles : List ℕ → ℕ → List Call → List Outcome → Example
+  -- reading setup data gives this
+  setup-reads : List ℕ → SetupAnswer → Example
+  -- what is granted to one who asks, with a limit
+  grants : ℕ → ℕ → ℕ → Example
+  -- a grant with this limit is refused with this number
+  grant-gives : ℕ → ℕ → ℕ → Example
+  -- writing a header into as many bytes gives just these
+  header-writes : Header → List ℕ → Example
+  -- writing a header into a buffer of so many bytes is refused with this number
+  header-gives : Header → ℕ → ℕ → Example
+  -- a header's words have these values at these places
+  header-words : Header → List (ℕ × ℕ) → Example
+  -- writing setup data into a buffer of so many bytes is refused with this number
+  setup-gives : Setup → ℕ → ℕ → Example
+  -- what holds between two sides, and the words that hold it
+  agrees : Setup → Setup → Agreement → List ℕ → Example
+  -- the table of replies, from number 0 on
+  replies-are : List ReplyKind → Example
+  -- an error reply to a frame, for a number and a limit, into a buffer of so many bytes is refused with this number
+  reply-gives : List ℕ → ℕ → ℕ → ℕ → ℕ → Example
+  -- the words that a start makes over a frame and a buffer of so many bytes have these values at these places
+  start-words : List ℕ → ℕ → List (ℕ × ℕ) → Example
+  -- a piece of so many bytes, for a state that lies in these words and a buffer of so many bytes, gives this number
+  piece-gives : List ℕ → ℕ → ℕ → ℕ → Example
+
+-- What it means that a worked example holds.
+abbrev pub Holds : Example → Type 0
+Holds (frame-reads frame number payload) = (readAnswer (readFrame frame) .number ≡ number) × (payloadOf (readFrame frame) ≡ payload)
+Holds (header-takes h size) =
+    (writeAnswer h size ≡ record { number = 0; length = size })
+    × (readAnswer (readFrame (writeBuffer h (replicate size 0))) ≡ record { header = h; number = 0 })
+Holds (replied frame number limit reply) =
+    (errorReplyAnswer frame number limit (length reply) ≡ record { number = 0; length = length reply })
+    × (errorReplyBuffer frame number limit (replicate (length reply) 0) ≡ reply)
+Holds (starts frame room number) = startAnswer (readFrame frame) room .number ≡ number
+Holds (assembles frame room calls outcomes) =
+    (startAnswer (readFrame frame) room .number ≡ 0) × (startThen frame (replicate room 0xff) calls .outcomes ≡ outcomes)
+Holds (setup-reads bytes answer) = readSetup bytes ≡ answer
+Holds (grants asked limit credit) = grantAnswer asked limit ≡ record { credit = credit; number = 0 }
+Holds (grant-gives asked limit number) = grantAnswer asked limit ≡ record { credit = 0; number = number }
+Holds (header-writes h bytes) =
+    (writeAnswer h (length bytes) ≡ record { number = 0; length = length bytes }) × (writeBuffer h (replicate (length bytes) 0xff) ≡ bytes)
+Holds (header-gives h room number) = writeAnswer h room ≡ record { number = number; length = 0 }
+Holds (header-words h values) = All (λ x. getD (headerWords h) (x .0) 0 ≡ x .1) values
+Holds (setup-gives x room number) = writeSetupAnswer x room ≡ record { number = number; length = 0 }
+Holds (agrees client server both w) = (agreement client server ≡ both) × (agreementWords both ≡ w)
+Holds (replies-are kinds) = map replyKindOf (from 0 22) ≡ kinds
+Holds (reply-gives frame number limit room refusal) = errorReplyAnswer frame number limit room ≡ record { number = refusal; length = 0 }
+Holds (start-words frame room values) = All (λ x. getD (startAnswer (readFrame frame) room .state) (x .0) 0 ≡ x .1) values
+Holds (piece-gives w room size number) = pieceNumber (stateIn w) room size ≡ number
+
+-- "C2 Words 2a, 1, 20, 0, 0, 0, 0 (hexadecimal)"
+abbrev pub c2 : List ℕ
+c2 = words (0x2a ∷ 1 ∷ 0x20 ∷ 0 ∷ 0 ∷ 0 ∷ 0 ∷ [])
+
+-- "C3 The same with version 2"
+abbrev pub c3 : List ℕ
+c3 = words (0x2a ∷ 2 ∷ 0x20 ∷ 0 ∷ 0 ∷ 0 ∷ 0 ∷ [])
+
+-- The words of a read list with these entries of position and length.
+unfoldable pub entryWords : List (ℕ × ℕ) → List ℕ
+entryWords [] = 0 ∷ []
+entryWords (e ∷ es) = 1 ∷ e .0 ∷ 7 ∷ e .1 ∷ 0 ∷ 9 ∷ entryWords es
+
+-- A frame with this procedure, these read entries and these inline bytes.
+abbrev pub call : ℕ → List (ℕ × ℕ) → List ℕ → List ℕ
+call procedure entries inline = words (0x2a ∷ 1 ∷ 0x20 ∷ procedure ∷ []) ++ words (entryWords entries) ++ words (0 ∷ 0 ∷ []) ++ inline
+
+-- "inline 01 to 0c"
+abbrev pub twelve : List ℕ
+twelve = 1 ∷ 2 ∷ 3 ∷ 4 ∷ 5 ∷ 6 ∷ 7 ∷ 8 ∷ 9 ∷ 10 ∷ 11 ∷ 12 ∷ []
+
+-- "5 bytes a1 to a5"
+abbrev pub five : List ℕ
+five = 0xa1 ∷ 0xa2 ∷ 0xa3 ∷ 0xa4 ∷ 0xa5 ∷ []
+
+-- "01 to 08, a1 to a5, 00 00 00, 09 to 0c; 20 bytes"
+abbrev pub c6Message : List ℕ
+c6Message = 1 ∷ 2 ∷ 3 ∷ 4 ∷ 5 ∷ 6 ∷ 7 ∷ 8 ∷ 0xa1 ∷ 0xa2 ∷ 0xa3 ∷ 0xa4 ∷ 0xa5 ∷ 0 ∷ 0 ∷ 0 ∷ 9 ∷ 10 ∷ 11 ∷ 12 ∷ []
+
+-- "a second chunk of 4 bytes", b1 to b4 here.
+abbrev pub four : List ℕ
+four = 0xb1 ∷ 0xb2 ∷ 0xb3 ∷ 0xb4 ∷ []
+
+-- "at 16 or 20: accepted, 24 bytes": the chunk before C6's last four bytes, or behind them.
+abbrev pub c7At16 : List ℕ
+c7At16 = 1 ∷ 2 ∷ 3 ∷ 4 ∷ 5 ∷ 6 ∷ 7 ∷ 8 ∷ 0xa1 ∷ 0xa2 ∷ 0xa3 ∷ 0xa4 ∷ 0xa5 ∷ 0 ∷ 0 ∷ 0 ∷ 0xb1 ∷ 0xb2 ∷ 0xb3 ∷ 0xb4 ∷ 9 ∷ 10 ∷ 11 ∷ 12 ∷ []
+
+abbrev pub c7At20 : List ℕ
+c7At20 = 1 ∷ 2 ∷ 3 ∷ 4 ∷ 5 ∷ 6 ∷ 7 ∷ 8 ∷ 0xa1 ∷ 0xa2 ∷ 0xa3 ∷ 0xa4 ∷ 0xa5 ∷ 0 ∷ 0 ∷ 0 ∷ 9 ∷ 10 ∷ 11 ∷ 12 ∷ 0xb1 ∷ 0xb2 ∷ 0xb3 ∷ 0xb4 ∷ []
+
+-- "C10 f6 ab 0e 18 01 01 03 07"
+abbrev pub c10 : List ℕ
+c10 = 0xf6 ∷ 0xab ∷ 0x0e ∷ 0x18 ∷ 0x01 ∷ 0x01 ∷ 0x03 ∷ 0x07 ∷ []
+
+-- "C13 All limits full"
+abbrev pub full : Header
+full = headerOf (record {
+  kind = Msg;
+  xid = 0x2a;
+  credit = 0x20;
+  reads = replicate 16 (record { position = 4; target = record { handle = 1; length = 2; offset = 3 } });
+  writes = replicate 4 (replicate 4 (record { handle = 1; length = 2; offset = 3 }));
+  reply = some (replicate 16 (record { handle = 1; length = 2; offset = 3 }));
+})
+
+-- C1 to C13, in the document's order.
+abbrev pub examples : List Example
+examples =
+    frame-reads [] 1 []
+    ∷ frame-reads c2 0 []
+    ∷ assembles c2 0 (asking ∷ []) (gives 0 [] ∷ [])
+    ∷ frame-reads c3 2 []
+    ∷ replied c3 2 32 (words (0x2a ∷ 1 ∷ 0x20 ∷ 4 ∷ 1 ∷ 1 ∷ 1 ∷ []))
+    ∷ frame-reads (take 27 c2) 5 []
+    ∷ frame-reads (words (0x2a ∷ 1 ∷ 0x20 ∷ 0 ∷ 2 ∷ 0 ∷ 0 ∷ [])) 6 []
+    ∷ assembles (call 0 ((8, 5) ∷ []) twelve) 24 (asking ∷ piece (0 ∷ five) ∷ piece five ∷ asking ∷ []) (gives 19 [] ∷ gives 18 [] ∷ gives 0 [] ∷ gives 0 c6Message ∷ [])
+    ∷ assembles (call 0 ((8, 5) ∷ (16, 4) ∷ []) twelve) 24 (piece five ∷ piece four ∷ asking ∷ []) (gives 0 [] ∷ gives 0 [] ∷ gives 0 c7At16 ∷ [])
+    ∷ assembles (call 0 ((8, 5) ∷ (20, 4) ∷ []) twelve) 24 (piece (five ++ four) ∷ asking ∷ []) (gives 0 [] ∷ gives 0 c7At20 ∷ [])
+    ∷ starts (call 0 ((8, 5) ∷ (20, 4) ∷ []) twelve) 23 16
+    ∷ starts (call 0 ((8, 5) ∷ (12, 4) ∷ []) twelve) 24 14
+    ∷ starts (call 0 ((8, 5) ∷ (24, 4) ∷ []) twelve) 24 14
+    ∷ assembles (call 1 ((0, 12) ∷ (8, 5) ∷ []) []) 20 (piece twelve ∷ asking ∷ piece five ∷ asking ∷ []) (gives 0 [] ∷ gives 19 [] ∷ gives 0 [] ∷ gives 0 c6Message ∷ [])
+    ∷ assembles (call 0 ((8, 2) ∷ (8, 3) ∷ []) twelve) 20 (piece five ∷ asking ∷ []) (gives 0 [] ∷ gives 0 c6Message ∷ [])
+    ∷ setup-reads c10 (record { setup = record { «remote_invalidation» = true; send = record { 0 = 4096 }; receive = record { 0 = 8192 } }; present = true; number = 0 })
+    ∷ setup-reads (take 7 c10) (record { setup = record { «remote_invalidation» = false; send = record { 0 = 1024 }; receive = record { 0 = 1024 } }; present = false; number = 0 })
+    ∷ grants 0 32 1
+    ∷ grants 100 32 32
+    ∷ header-takes full 960
+    ∷ []
+
+-- The numbers of the table that C1 to C13 do not show, each given once (21 cannot be given).
+abbrev pub numbers : List Example
+numbers =
+    frame-reads (words (0x2a ∷ 1 ∷ 0x20 ∷ 2 ∷ [])) 3 []
+    ∷ frame-reads (words (0x2a ∷ 1 ∷ 0x20 ∷ 3 ∷ [])) 4 []
+    ∷ frame-reads (call 0 (replicate 17 (4, 0)) []) 7 []
+    ∷ frame-reads (call 0 ((8, 4) ∷ (4, 4) ∷ []) []) 8 []
+    ∷ frame-reads (call 0 ((6, 4) ∷ []) []) 9 []
+    ∷ frame-reads (words (0x2a ∷ 1 ∷ 0x20 ∷ 4 ∷ 3 ∷ [])) 10 []
+    ∷ frame-reads (call 1 [] (0xff ∷ [])) 11 []
+    ∷ starts (call 1 [] []) 0 12
+    ∷ starts (call 0 [] (1 ∷ [])) 4 13
+    ∷ starts (call 0 ((4, 1048576) ∷ []) four) 0 15
+    ∷ piece-gives (replicate 103 0 ++ (2 ∷ [])) 0 0 17
+    ∷ grant-gives 1 0 20
+    ∷ []
+
+-- Setup data with this flag and these two sizes.
+abbrev pub side : Bool → ℕ → ℕ → Setup
+side flag send receive = record { «remote_invalidation» = flag; send = record { 0 = send }; receive = record { 0 = receive } }
+
+-- A header whose parts all differ: no frame holds it, but its words do.
+abbrev pub distinct : Header
+distinct = headerOf (record {
+  kind = Error (error.Version 9 10);
+  xid = 0x2a;
+  credit = 0x20;
+  reads = record { position = 4; target = record { handle = 5; length = 6; offset = 8 * 4294967296 + 7 } } ∷ [];
+  writes = (record { handle = 11; length = 12; offset = 13 } ∷ []) ∷ [] ∷ [];
+  reply = some (record { handle = 14; length = 15; offset = 16 } ∷ record { handle = 17; length = 18; offset = 19 } ∷ record { handle = 20; length = 21; offset = 22 } ∷ []);
+})
+
+-- A header with these read positions.
+abbrev pub reading : Kind → List ℕ → Header
+reading kind positions = headerOf (record {
+  kind = kind;
+  xid = 0;
+  credit = 0;
+  reads = map (λ n. record { position = n; target = zeroSegment }) positions;
+  writes = [];
+  reply = none;
+})
+
+-- A header with a segment in a reply chunk that is absent.
+abbrev pub absentWithSegment : Header
+absentWithSegment = record {
+  reads = headerOf nothing .reads;
+  writes = headerOf nothing .writes;
+  reply = record { segments = replicate 16 zeroSegment; count = 1; present = false };
+  kind = Msg;
+  xid = 0;
+  credit = 0;
+}
+
+-- A header with a write chunk and a reply chunk, their offsets above 32 bits.
+abbrev pub offsets : Header
+offsets = headerOf (record {
+  kind = Msg;
+  xid = 0x2a;
+  credit = 0x20;
+  reads = [];
+  writes = (record { handle = 7; length = 8; offset = 10 * 4294967296 + 11 } ∷ []) ∷ [];
+  reply = some (record { handle = 1; length = 2; offset = 3 * 4294967296 + 4 } ∷ []);
+})
+
+-- What the two lists above leave open, each once: the order of the checks, the ends of the limits, the places of bytes and words.
+abbrev pub edges : List Example
+edges =
+    frame-reads (words (0x2a ∷ 1 ∷ 0x20 ∷ 5 ∷ [])) 3 []
+    ∷ frame-reads (call 0 ((8, 4) ∷ (6, 4) ∷ []) []) 9 []
+    ∷ frame-reads (call 0 (replicate 16 (4, 0)) []) 0 []
+    ∷ frame-reads (words (0x2a ∷ 1 ∷ 0x20 ∷ 0 ∷ 0 ∷ 1 ∷ [])) 5 []
+    ∷ frame-reads (words (0x2a ∷ 1 ∷ 0x20 ∷ 0 ∷ 0 ∷ 1 ∷ 1 ∷ [])) 5 []
+    ∷ frame-reads (words (0x2a ∷ 1 ∷ 0x20 ∷ 0 ∷ 0 ∷ 1 ∷ 17 ∷ [])) 7 []
+    ∷ frame-reads (words (0x2a ∷ 1 ∷ 0x20 ∷ 0 ∷ 0 ∷ 1 ∷ 0 ∷ 1 ∷ 0 ∷ 1 ∷ 0 ∷ 1 ∷ 0 ∷ 1 ∷ [])) 7 []
+    ∷ frame-reads (words (0x2a ∷ 1 ∷ 0x20 ∷ 0 ∷ 0 ∷ 0 ∷ 1 ∷ 1 ∷ [])) 5 []
+    ∷ frame-reads (words (0x2a ∷ 1 ∷ 0x20 ∷ 0 ∷ 0 ∷ 0 ∷ 1 ∷ 17 ∷ [])) 7 []
+    ∷ header-writes offsets (words (0x2a ∷ 1 ∷ 0x20 ∷ 0 ∷ 0 ∷ 1 ∷ 1 ∷ 7 ∷ 8 ∷ 10 ∷ 11 ∷ 0 ∷ 1 ∷ 1 ∷ 1 ∷ 2 ∷ 3 ∷ 4 ∷ []))
+    ∷ header-writes (reading (Error (error.Version 5 6)) []) (words (0 ∷ 1 ∷ 0 ∷ 4 ∷ 1 ∷ 5 ∷ 6 ∷ []))
+    ∷ header-gives (reading (Error error.Chunk) (replicate 17 6)) 0 12
+    ∷ header-gives (reading Msg (replicate 17 6)) 0 7
+    ∷ header-gives absentWithSegment 0 7
+    ∷ header-gives (reading Msg (8 ∷ 6 ∷ [])) 0 9
+    ∷ header-gives (reading Msg (8 ∷ 4 ∷ [])) 0 8
+    ∷ header-gives (reading Msg []) 27 16
+    ∷ header-words distinct ((0, 4) ∷ (1, 0) ∷ (2, 5) ∷ (3, 6) ∷ (4, 7) ∷ (5, 8) ∷ (96, 11) ∷ (97, 12) ∷ (98, 13) ∷ (99, 0) ∷ (160, 14) ∷ (164, 17) ∷ (224, 1) ∷ (225, 0) ∷ (228, 1) ∷ (229, 2) ∷ (230, 1) ∷ (231, 3) ∷ (232, 2) ∷ (233, 9) ∷ (234, 10) ∷ (235, 0x2a) ∷ (236, 0x20) ∷ (237, 0) ∷ [])
+    ∷ setup-reads (0xf6 ∷ 0xab ∷ 0x0e ∷ 0x18 ∷ 0x01 ∷ 0x03 ∷ 0x03 ∷ 0x07 ∷ []) (record { setup = side true 4096 8192; present = true; number = 0 })
+    ∷ setup-reads (0xf6 ∷ 0xab ∷ 0x0e ∷ 0x18 ∷ 0x01 ∷ 0x02 ∷ 0x03 ∷ 0x07 ∷ []) (record { setup = side false 4096 8192; present = true; number = 0 })
+    ∷ setup-gives (side true 1000 1024) 0 20
+    ∷ setup-gives (side true 1024 1024) 7 16
+    ∷ agrees (side true 4096 8192) (side true 16384 2048) (record { «client_to_server» = record { 0 = 2048 }; «server_to_client» = record { 0 = 8192 }; «remote_invalidation» = true; number = 0 }) (2048 ∷ 8192 ∷ 1 ∷ [])
+    ∷ agrees (side true 4096 8192) (side true 1000 2048) (record { «client_to_server» = record { 0 = 0 }; «server_to_client» = record { 0 = 0 }; «remote_invalidation» = false; number = 20 }) (0 ∷ 0 ∷ 0 ∷ [])
+    ∷ grants 5 32 5
+    ∷ replies-are (None ∷ None ∷ Version ∷ Chunk ∷ None ∷ Chunk ∷ Chunk ∷ Chunk ∷ Chunk ∷ Chunk ∷ None ∷ Chunk ∷ Chunk ∷ Chunk ∷ Chunk ∷ Chunk ∷ None ∷ None ∷ None ∷ None ∷ None ∷ None ∷ [])
+    ∷ replied (words (0x2a ∷ 1 ∷ 5 ∷ 0 ∷ [])) 5 32 (words (0x2a ∷ 1 ∷ 5 ∷ 4 ∷ 2 ∷ []))
+    ∷ reply-gives c3 2 0 0 20
+    ∷ reply-gives c3 22 32 28 20
+    ∷ reply-gives c3 2 32 27 16
+    ∷ starts (call 0 ((4, 1048572) ∷ []) four) 1048576 0
+    ∷ starts (call 0 ((4, 1048572) ∷ []) four) 1048575 16
+    ∷ starts (call 0 [] (1 ∷ 2 ∷ [])) 4 13
+    ∷ starts (call 0 ((0, 4) ∷ []) []) 4 12
+    ∷ starts (call 0 ((0, 0) ∷ []) []) 4 12
+    ∷ starts (call 1 ((0, 0) ∷ []) []) 4 0
+    ∷ start-words (call 0 ((8, 5) ∷ []) twelve) 24 ((0, 8) ∷ (2, 7) ∷ (3, 5) ∷ (4, 9) ∷ (96, 12) ∷ (97, 0) ∷ (98, 24) ∷ (100, 0) ∷ (102, 1) ∷ (103, 0) ∷ [])
+    ∷ start-words (call 1 ((0, 12) ∷ (8, 5) ∷ []) []) 20 ((6, 8) ∷ (96, 12) ∷ (98, 20) ∷ (102, 2) ∷ (103, 1) ∷ [])
+    ∷ piece-gives (replicate 104 0) 0 0 0
+    ∷ piece-gives (replicate 104 0) 4 0 17
+    ∷ []

@@ -1,0 +1,7 @@
+pub mod Message
+pub mod Calls
+pub mod Tally
+pub mod Cuts
+pub mod Demands
+pub mod Exports
+pub mod Examples

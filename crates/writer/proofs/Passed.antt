@@ -1,0 +1,195 @@
+-- What the checks of the writer let pass.
+-- Assumes nothing.
+use mathlib.Core.Path.{_≡_, refl, sym, subst}
+use mathlib.Core.Bool.{Bool, true, false, cond}
+use mathlib.Core.List.{List, [], _∷_, _++_, append-assoc, append-nil, map}
+use mathlib.Core.Option.{Option, none, some}
+use Prim.Native.Nat.{ℕ, _+_, _*_, _≤_}
+use native.Mathlib.Omega.{arith}
+use borrow.Author.Tests.{le-leb, leb-true, eqb-true, not-true}
+use lib.ListN.{length, take}
+use lib.Seq.{length-take-le}
+use lib.Dec.{leb, eqb}
+use Rattle.wire.specs.Wire.{joined, wordBytes}
+use Rattle.chunk_lists.specs.Lists.{positionsNumber}
+use Rattle.header.specs.Content.{Content, replyChunkOf, headerOf, runs, replyOf, contentOf}
+use Rattle.header.specs.Bytes.{countedBytes, chunkBytes, readListBytes, writeListBytes, replyBytes, errorBytes, restBytes, fixedBytes, headerBytes}
+use Rattle.writer.specs.Write.{bareIfError, writeNumber}
+use Rattle.header.specs.Limits.{total, withinLimits}
+use Rattle.wire.specs.Fits.{All, SegmentFits, ReadSegmentFits}
+use Rattle.header.specs.Fits.{Representable}
+use Rattle.header.specs.declared.Kind.{Kind}
+use Rattle.header.specs.declared.Kind.the-variants.{Msg, Nomsg, Error}
+use Rattle.header.specs.declared.ErrorKind.the-variants.{Version, Chunk}
+use Rattle.wire.specs.declared.Segment.{Segment}
+use Rattle.wire.specs.declared.ReadSegment.{ReadSegment}
+use Rattle.header.specs.declared.Header.{Header}
+use Rattle.header.proofs.Allowed.{ReplyAllowed, Allowed, BareIfError}
+use Rattle.wire.proofs.WordBytes.{length-word, length-read-segment}
+use Rattle.reader.proofs.ReadBack.{read-entry-first, chunk-first, length-segments}
+use Rattle.header.proofs.Contents.{all-take, all-runs, lengths-runs, contentOf-headerOf, counts-held, Within, chunks-same}
+use Rattle.answers.proofs.Checks.{both-hold, check-passed}
+use Rattle.chunk_lists.proofs.Positions.{positions-zero}
+
+-- What every check asks of a header that is written into `room` bytes.
+pub record Passed (h : Header) (room : ℕ) : Type 0 where
+  pub bare : bareIfError (h .kind) (h .reads .count) (h .writes .chunks) (h .reply .present) ≡ true
+  pub reads : h .reads .count ≤ 16
+  pub chunks : h .writes .chunks ≤ 4
+  pub sum : total (take (h .writes .chunks) (h .writes .counts)) ≤ 16
+  pub reply : h .reply .count ≤ cond (h .reply .present) 16 0
+  pub rising : positionsNumber 0 (contentOf h .reads) 0 ≡ 0
+  pub short : length (headerBytes (contentOf h)) ≤ 1024
+  pub fits : length (headerBytes (contentOf h)) ≤ room
+
+-- The number 0 says that every check passed.
+pub write-passed : (h : Header) (room : ℕ) → writeNumber h room ≡ 0 → Passed h room
+unfolding writeNumber withinLimits
+write-passed h room e =
+    let a = check-passed (bareIfError (h .kind) (h .reads .count) (h .writes .chunks) (h .reply .present)) 12 _ (omega arith) e in
+    let k = check-passed (withinLimits (h .reads .count) (h .writes .chunks) (h .writes .counts) (h .reply .present) (h .reply .count)) 7 _ (omega arith) (a .1) in
+    let b = both-hold (leb (h .reads .count) 16) _ (k .0) in
+    let c = both-hold (leb (h .writes .chunks) 4) _ (b .1) in
+    let d = both-hold (leb (total (take (h .writes .chunks) (h .writes .counts))) 16) _ (c .1) in
+    let next = positions-zero 0 (contentOf h .reads) _ (k .1) in
+    let g = check-passed (leb (length (headerBytes (contentOf h))) 1024) 21 _ (omega arith) next in
+    let i = check-passed (leb (length (headerBytes (contentOf h))) room) 16 _ (omega arith) (g .1) in
+    record {
+      bare = a .0;
+      reads = leb-true _ _ (b .0);
+      chunks = leb-true _ _ (c .0);
+      sum = leb-true _ _ (d .0);
+      reply = leb-true _ _ (d .1);
+      rising = subst (λ (n : ℕ). positionsNumber 0 (contentOf h .reads) n ≡ 0) next (k .1);
+      short = leb-true _ _ (g .0);
+      fits = leb-true _ _ (i .0);
+    }
+
+-- Where every check passes the number is 0.
+pub passed-write : (h : Header) (room : ℕ) → Passed h room → writeNumber h room ≡ 0
+unfolding writeNumber withinLimits
+passed-write h room p =
+    simp (p .bare, le-leb _ _ (p .reads), le-leb _ _ (p .chunks), le-leb _ _ (p .sum), le-leb _ _ (p .reply), le-leb _ _ (p .short), le-leb _ _ (p .fits)) (p .rising)
+
+-- How long a read list is.
+length-read-list : (l : List ReadSegment) (r : List ℕ) → length (readListBytes l ++ r) ≡ length l * 24 + 4 + length r
+unfolding readListBytes joined
+length-read-list [] r = simp length-word (omega arith)
+length-read-list (x ∷ l) r = simp (read-entry-first, length-word, length-read-segment) (omega (arith, length-read-list l r))
+
+-- How long a counted run of segments is.
+length-counted : (c : List Segment) (r : List ℕ) → length (countedBytes c ++ r) ≡ 4 + length c * 16 + length r
+unfolding countedBytes
+length-counted c r = simp (append-assoc, length-word) (omega (arith, length-segments c r))
+
+-- How long a write list is.
+length-write-list : (cs : List (List Segment)) (r : List ℕ) → length (writeListBytes cs ++ r) ≡ length cs * 8 + total (map length cs) * 16 + 4 + length r
+unfolding writeListBytes joined total
+length-write-list [] r = simp length-word (omega arith)
+length-write-list (c ∷ cs) r = simp (chunk-first, length-word, length-counted) (omega (arith, length-write-list cs r))
+
+-- How long a reply chunk is at most.
+length-reply : (o : Option (List Segment)) → ReplyAllowed o → length (replyBytes o) ≤ 264
+unfolding replyBytes chunkBytes wordBytes countedBytes
+length-reply none f = omega arith
+length-reply (some c) f = omega (arith, simp append-nil at (length-segments c []), f .0)
+
+-- What stands behind the fixed words is no longer than the three parts, or 12 bytes.
+length-rest : (kind : Kind) (parts : List ℕ) (n : ℕ) → length parts ≤ n → 12 ≤ n → length (restBytes kind parts) ≤ n
+unfolding errorBytes wordBytes
+length-rest Msg parts n h k = h
+length-rest Nomsg parts n h k = h
+length-rest (Error (Version low high)) parts n h k = k
+length-rest (Error Chunk) parts n h k = omega arith
+
+-- A header within the limits is at most 960 bytes long.
+pub header-length : (c : Content) → Allowed c → length (headerBytes c) ≤ 960
+unfolding headerBytes fixedBytes wordBytes
+header-length c a =
+    let reads = length-read-list (c .reads) (writeListBytes (c .writes) ++ replyBytes (c .reply)) in
+    let writes = length-write-list (c .writes) (replyBytes (c .reply)) in
+    let reply = length-reply (c .reply) (a .reply) in
+    let parts : length (readListBytes (c .reads) ++ (writeListBytes (c .writes) ++ replyBytes (c .reply))) ≤ 944 = omega arith in
+    let rest = length-rest (c .kind) (readListBytes (c .reads) ++ (writeListBytes (c .writes) ++ replyBytes (c .reply))) 944 parts (omega arith) in
+    omega arith
+
+-- A header that passed every check uses places that are there.
+pub passed-within : (h : Header) (room : ℕ) → Representable h → Passed h room → Within h
+passed-within h room r p =
+    let few = most (h .reply .present) (p .reply) in
+    record {
+      reads = simp (r .reads-length) (p .reads);
+      chunks = simp (r .counts-length) (p .chunks);
+      sum = simp (r .writes-length) (p .sum);
+      reply = simp (r .reply-length) few;
+    }
+  where
+    most : (present : Bool) → h .reply .count ≤ cond present 16 0 → h .reply .count ≤ 16
+    most true le = le
+    most false le = omega arith
+
+-- An ERROR header that passed holds no lists.
+bare-error : (kind : Kind) (h : Header) → bareIfError kind (h .reads .count) (h .writes .chunks) (h .reply .present) ≡ true → BareIfError kind (contentOf h)
+unfolding contentOf runs
+bare-error Msg h e = tt
+bare-error Nomsg h e = tt
+bare-error (Error k) h e =
+    let a = both-hold (eqb (h .reads .count) 0) _ e in
+    let b = both-hold (eqb (h .writes .chunks) 0) _ (a .1) in
+    let r : h .reads .count ≡ 0 = eqb-true _ _ (a .0) in
+    let w : h .writes .chunks ≡ 0 = eqb-true _ _ (b .0) in
+    let p : h .reply .present ≡ false = not-true _ (b .1) in
+    (simp r, simp w, simp p)
+
+-- A reply chunk that passed is allowed.
+reply-allowed : (present : Bool) (count : ℕ) (l : List Segment) → All SegmentFits l → count ≤ cond present 16 0 → count ≤ length l → ReplyAllowed (replyOf present (take count l))
+reply-allowed false count l f h k = tt
+reply-allowed true count l f h k = (simp (length-take-le count l k) h, all-take SegmentFits count l f)
+
+-- What a header holds that passed every check is allowed.
+pub content-allowed : (h : Header) (room : ℕ) → Representable h → Passed h room → Allowed (contentOf h)
+unfolding contentOf
+content-allowed h room r p =
+    let w = passed-within h room r p in
+    record {
+      kind = r .kind;
+      xid = r .xid;
+      credit = r .credit;
+      reads = all-take ReadSegmentFits (h .reads .count) (h .reads .segments) (r .reads-segments);
+      reads-limit = simp (length-take-le (h .reads .count) (h .reads .segments) (w .reads)) (p .reads);
+      rising = p .rising;
+      writes = all-runs SegmentFits (take (h .writes .chunks) (h .writes .counts)) (h .writes .segments) (r .writes-segments);
+      chunks-limit = simp (chunks-same h w) (p .chunks);
+      writes-limit = simp (lengths-runs (take (h .writes .chunks) (h .writes .counts)) (h .writes .segments) (w .sum)) (p .sum);
+      reply = reply-allowed (h .reply .present) (h .reply .count) (h .reply .segments) (r .reply-segments) (p .reply) (w .reply);
+      bare = bare-error (h .kind) h (p .bare);
+    }
+
+-- The struct of an ERROR content without lists passes.
+error-bare : (kind : Kind) (c : Content) → BareIfError kind c → bareIfError kind (length (c .reads)) (length (c .writes)) (replyChunkOf (c .reply) .present) ≡ true
+error-bare Msg c b = refl
+error-bare Nomsg c b = refl
+error-bare (Error e) c b = simp (b .0, b .1, b .2)
+
+-- The struct of a reply chunk that is allowed passes.
+reply-limit : (o : Option (List Segment)) → ReplyAllowed o → replyChunkOf o .count ≤ cond (replyChunkOf o .present) 16 0
+reply-limit none f = omega arith
+reply-limit (some l) f = f .0
+
+-- The struct of an allowed content passes every check, where there is room.
+pub allowed-passed : (c : Content) (room : ℕ) → Allowed c → length (headerBytes c) ≤ room → Passed (headerOf c) room
+unfolding headerOf
+allowed-passed c room a h =
+    let same : contentOf (headerOf c) ≡ c = contentOf-headerOf c in
+    let long = header-length c a in
+    let most : length (headerBytes c) ≤ 1024 = omega arith in
+    record {
+      bare = error-bare (c .kind) c (a .bare);
+      reads = a .reads-limit;
+      chunks = a .chunks-limit;
+      sum = simp (counts-held (c .writes)) (a .writes-limit);
+      reply = reply-limit (c .reply) (a .reply);
+      rising = subst (λ (d : Content). positionsNumber 0 (d .reads) 0 ≡ 0) (sym same) (a .rising);
+      short = subst (λ (d : Content). length (headerBytes d) ≤ 1024) (sym same) most;
+      fits = subst (λ (d : Content). length (headerBytes d) ≤ room) (sym same) h;
+    }
