@@ -21,7 +21,7 @@
  *     struct eos_state state;
  *     size_t length;
  *     uint32_t number = eos_start(frame, frame_len, out, out_len, &state);
- *     if (number != EOS_DONE) refuse: eos_error_reply(frame, frame_len, number, limit, reply, EOS_LONGEST_REPLY, &length);
+ *     if (number != EOS_DONE) refuse: eos_error_reply(frame, frame_len, number, limit, reply, EOS_MAX_REPLY, &length);
  *     for each piece pulled, in the order of state.reads:
  *         if (eos_take_piece(&state, piece, piece_len, out, out_len) != EOS_DONE) it was more than is still to be pulled
  *             (EOS_PIECE_LONG), or the state or the buffer's length was changed; nothing is, so another piece may come
@@ -47,16 +47,16 @@ extern "C" {
 #endif
 
 /* Limits. */
-#define EOS_READ_SEGMENTS 16        /* in the read list */
-#define EOS_WRITE_CHUNKS 4          /* in the write list */
-#define EOS_WRITE_SEGMENTS 16       /* in all write chunks together */
-#define EOS_REPLY_SEGMENTS 16       /* in the reply chunk */
-#define EOS_LONGEST_MESSAGE 1048576 /* bytes of a reassembled message: room that always suffices */
-#define EOS_LONGEST_HEADER 1024     /* bytes of a header to be written: room that always suffices */
-#define EOS_LONGEST_REPLY 28        /* bytes of an error reply: room that always suffices */
-#define EOS_SETUP_BYTES 8           /* bytes of setup data */
-#define EOS_SMALLEST_SIZE 1024      /* of a send or receive size, which is a multiple of 1,024 */
-#define EOS_LARGEST_SIZE 262144
+#define EOS_MAX_READ_SEGMENTS 16  /* in the read list */
+#define EOS_MAX_WRITE_CHUNKS 4    /* in the write list */
+#define EOS_MAX_WRITE_SEGMENTS 16 /* in all write chunks together */
+#define EOS_MAX_REPLY_SEGMENTS 16 /* in the reply chunk */
+#define EOS_MAX_MESSAGE 1048576   /* bytes of a reassembled message: room that always suffices */
+#define EOS_MAX_HEADER 1024       /* bytes of a header to be written: room that always suffices */
+#define EOS_MAX_REPLY 28          /* bytes of an error reply: room that always suffices */
+#define EOS_SETUP_BYTES 8         /* bytes of setup data */
+#define EOS_MIN_SIZE 1024         /* of a send or receive size, which is a multiple of 1,024 */
+#define EOS_MAX_SIZE 262144
 
 /* The answer numbers. Where more than one text holds, the first check that fails gives its number: each call makes the
  * checks that are named with it in the order in which they are named. */
@@ -65,7 +65,7 @@ enum eos_number {
     EOS_SHORT_FRAME = 1,         /* frame under 16 bytes */
     EOS_OTHER_VERSION = 2,       /* version is not 1 */
     EOS_OTHER_PROCEDURE = 3,     /* procedure is 2 or above 4 */
-    EOS_PROCEDURE_DONE = 4,      /* procedure is 3 */
+    EOS_DONE_RECEIVED = 4,       /* procedure is 3 */
     EOS_ENDS_INSIDE_FIELD = 5,   /* frame ends inside a field that must be there */
     EOS_BAD_MARKER = 6,          /* a marker word above 1 */
     EOS_OVER_LIMIT = 7,          /* an entry or count that goes over a limit above; in writing also segments in a reply
@@ -113,10 +113,10 @@ struct eos_read_segment {
 
 /* A transport header. Places behind a count are unused: zero in a header that was read, ignored in one to be written. */
 struct eos_header {
-    struct eos_read_segment reads[EOS_READ_SEGMENTS];
-    struct eos_segment writes[EOS_WRITE_SEGMENTS]; /* of all write chunks, one behind the other */
-    struct eos_segment reply[EOS_REPLY_SEGMENTS];
-    uint32_t write_counts[EOS_WRITE_CHUNKS];       /* segments of each write chunk */
+    struct eos_read_segment reads[EOS_MAX_READ_SEGMENTS];
+    struct eos_segment writes[EOS_MAX_WRITE_SEGMENTS]; /* of all write chunks, one behind the other */
+    struct eos_segment reply[EOS_MAX_REPLY_SEGMENTS];
+    uint32_t write_counts[EOS_MAX_WRITE_CHUNKS];       /* segments of each write chunk */
     uint32_t read_count;
     uint32_t write_chunks;
     uint32_t reply_present;                        /* 0 or 1 */
@@ -144,7 +144,7 @@ struct eos_setup {
 };
 
 struct eos_agreement {
-    uint32_t client_to_server;    /* inline size of this direction, in bytes */
+    uint32_t client_to_server;    /* inline threshold of this direction, in bytes */
     uint32_t server_to_client;
     uint32_t remote_invalidation; /* 0 or 1 */
 };
@@ -152,7 +152,7 @@ struct eos_agreement {
 /* The state of a reassembly. Pull reads[0] to reads[read_count - 1], in this order, target.length bytes of each and no
  * padding; leave the fields alone. What is still to be pulled is the sum of these lengths less taken. */
 struct eos_state {
-    struct eos_read_segment reads[EOS_READ_SEGMENTS];
+    struct eos_read_segment reads[EOS_MAX_READ_SEGMENTS];
     size_t base;                  /* bytes of the inline payload, or of the segments at position 0 */
     size_t buffer;                /* length of the buffer at the start */
     size_t taken;                 /* bytes taken so far */
@@ -178,7 +178,7 @@ uint32_t eos_read_setup(const uint8_t *bytes, size_t bytes_len, struct eos_setup
 /* Writes the 8 bytes of setup data to the front of a buffer. Numbers 20, 16. */
 uint32_t eos_write_setup(const struct eos_setup *setup, uint8_t *out, size_t out_len, size_t *length);
 
-/* The inline size of each direction, and whether remote invalidation may be used. Number 20. */
+/* The inline threshold of each direction, and whether remote invalidation may be used. Number 20. */
 uint32_t eos_agree(const struct eos_setup *client, const struct eos_setup *server, struct eos_agreement *agreement);
 
 /* The credits to grant to one who asks for so many in the credit word of its header: the smaller of asked and limit, but at

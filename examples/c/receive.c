@@ -54,7 +54,7 @@ static uint32_t receive(const uint8_t *frame, size_t frame_len, uint8_t *out, si
 /* Serves one frame: hands the message to the RPC layer, or sends the error reply. Here both are printed. */
 static void serve(const char *name, const uint8_t *frame, size_t frame_len)
 {
-    static uint8_t out[EOS_LONGEST_MESSAGE];
+    static uint8_t out[EOS_MAX_MESSAGE];
     size_t length;
     uint32_t number = receive(frame, frame_len, out, sizeof out, &length);
 
@@ -62,7 +62,7 @@ static void serve(const char *name, const uint8_t *frame, size_t frame_len)
     if (number == EOS_DONE) {
         print_bytes("message", out, length);
     } else {
-        uint8_t reply[EOS_LONGEST_REPLY];
+        uint8_t reply[EOS_MAX_REPLY];
         if (eos_error_reply(frame, frame_len, number, CREDIT_LIMIT, reply, sizeof reply, &length) == EOS_DONE)
             print_bytes("reply", reply, length);
     }
@@ -129,7 +129,7 @@ int main(void)
     const struct eos_read_segment c6[] = {at(8, 5, 12)};
     const struct eos_read_segment c8[] = {at(0, 12, 0), at(8, 5, 12)};
     const struct eos_read_segment c9[] = {at(8, 2, 12), at(8, 3, 14)};
-    uint8_t frame[EOS_LONGEST_HEADER + 12];
+    uint8_t frame[EOS_MAX_HEADER + 12];
     size_t length;
 
     connect_with(c10, sizeof c10);

@@ -1,16 +1,18 @@
 //! A second implementation of the calls on headers, setup data, credits, error replies and the
-//! reassembly, and the means to compare.
+//! reassembly, and the means to compare. Each folder has a file for each of these subjects.
 
-pub mod abi;
-pub mod assembly;
+pub mod calls;
 pub mod cases;
 pub mod check;
-pub mod oracle;
+pub mod convert;
+#[cfg(library)]
+pub mod library;
 pub mod plain;
-pub mod reply;
-pub mod setup;
+pub mod reference;
+pub mod rng;
 pub mod tally;
 pub mod vectors;
+pub mod words;
 
 #[cfg(test)]
-mod tests;
+mod wrong;

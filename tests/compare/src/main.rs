@@ -5,11 +5,12 @@
 //! One line for each family, then the numbers and forms seen and the total; the first difference
 //! is printed with its input and ends the run with status 1, as does one of them never seen.
 
-#[cfg(not(port))]
+#[cfg(not(library))]
 compile_error!("set EOS_LIB_DIR to the folder that holds libeoswynnor.a");
 
 use compare::check::Checker;
-use compare::{abi::Library, cases, vectors};
+use compare::library::Library;
+use compare::{cases, vectors};
 use std::process::ExitCode;
 
 fn main() -> ExitCode {

@@ -1,6 +1,6 @@
 //! The plain tally of demand 3, in document 01's words: it knows neither cut nor state, and keeps only T.
 
-use crate::oracle::{self, Kind};
+use crate::reference::header::{self, Kind};
 use std::collections::BTreeMap;
 
 pub struct Tally {
@@ -16,7 +16,7 @@ pub struct Tally {
 impl Tally {
     /// Fed the uncut frame of an accepted start and the buffer before it.
     pub fn new(frame: &[u8], before: &[u8]) -> Self {
-        let (header, inline) = oracle::read(frame).expect("an accepted start");
+        let (header, inline) = header::read(frame).expect("an accepted start");
         let mut totals = BTreeMap::<usize, usize>::new();
         for entry in &header.reads {
             *totals.entry(entry.position as usize).or_default() += entry.target.length as usize;
@@ -73,5 +73,23 @@ impl Tally {
         let mut buffer = self.buffer.clone();
         self.pulled.iter().zip(&self.taken).for_each(|(&place, &byte)| buffer[place] = byte);
         buffer
+    }
+}
+
+#[cfg(test)]
+mod tests {
+    use super::*;
+    use crate::cases::assembly::{c8, C6, INLINE, PULLED};
+
+    #[test]
+    fn the_tally_counts() {
+        let mut tally = Tally::new(&c8().bytes(), &[0x55; 22]);
+        let pulled = [&INLINE[..], &PULLED].concat();
+        assert_eq!((tally.to_pull(), tally.piece(&[0; 18]), tally.count()), (17, 18, 0));
+        assert_eq!(tally.buffer(), [&[0x55; 13][..], &[0; 3], &[0x55; 6]].concat());
+        assert_eq!((tally.piece(&pulled[..9]), tally.ask(), tally.count()), (0, (19, vec![]), 9));
+        assert_eq!((tally.piece(&pulled), tally.piece(&[]), tally.count()), (18, 0, 9));
+        assert_eq!((tally.piece(&pulled[9..]), tally.ask(), tally.count()), (0, (0, C6.to_vec()), 17));
+        assert_eq!(tally.buffer(), [&C6[..], &[0x55; 2]].concat());
     }
 }

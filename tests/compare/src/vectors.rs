@@ -1,8 +1,9 @@
 //! The outside encodings: one JSON object a line, of a fixed and simple form.
 
-use crate::abi::flatten;
-use crate::check::{hex, Checker, Outcome, Port};
-use crate::oracle::{encode, read, Fault, Header, Kind, ReadSegment, Reply, Segment};
+use crate::calls::Calls;
+use crate::check::{hex, Checker, Outcome};
+use crate::convert::flatten;
+use crate::reference::header::{encode, read, Fault, Header, Kind, ReadSegment, Reply, Segment};
 use std::collections::BTreeMap;
 
 /// What stands between the outer brackets, parted at the commas of that depth.
@@ -74,23 +75,36 @@ pub fn load(file: &str) -> Result<Vec<(Vec<u8>, Header)>, String> {
     text.lines().map(|line| vector(line.trim()).ok_or(format!("vectors {file}: {line}"))).collect()
 }
 
-/// The oracle first against the fields, then the implementation against the oracle.
-pub fn run<P: Port>(check: &mut Checker<P>, vectors: &[(Vec<u8>, Header)]) -> Outcome {
+/// The reference first against the fields, then the implementation against the reference.
+pub fn run<C: Calls>(check: &mut Checker<C>, vectors: &[(Vec<u8>, Header)]) -> Outcome {
     check.family("read vectors");
     for (frame, header) in vectors {
         match read(frame) {
             Ok((read, payload)) if read == *header && payload.is_empty() => check.read(frame)?,
-            other => return Err(format!("oracle: {other:?}, want {header:?}\nframe: {}", hex(frame))),
+            other => return Err(format!("reference: {other:?}, want {header:?}\nframe: {}", hex(frame))),
         }
     }
     check.family("write vectors");
     for (frame, header) in vectors {
         if encode(header) != *frame {
-            return Err(format!("oracle writes another frame than {}", hex(frame)));
+            return Err(format!("reference writes another frame than {}", hex(frame)));
         }
         for room in [0, frame.len() - 1, frame.len(), frame.len() + 1, 2048] {
             check.write(&flatten(header), room)?;
         }
     }
     Ok(())
+}
+
+#[cfg(test)]
+mod tests {
+    use super::*;
+    use crate::plain::Plain;
+
+    #[test]
+    fn vectors_agree() {
+        let vectors = load(&usual_file()).expect("vectors; EOS_VECTORS may name the file");
+        assert_eq!(vectors.len(), 242);
+        run(&mut Checker::new(Plain, 1), &vectors).unwrap();
+    }
 }

@@ -2,16 +2,20 @@
 //! copies. `bench --one CALL INPUT N` just makes N calls, for callgrind; CALL is a row's call
 //! behind lib-, plain- or copy-, INPUT the row's input. A fill is all pieces of a 1 MiB message.
 
-#[cfg(not(port))]
+#[cfg(not(library))]
 compile_error!("set EOS_LIB_DIR to the folder that holds libeoswynnor.a");
 
-use compare::abi::{flatten, Flat, FlatAgreement, FlatSetup, FlatState, Library};
+use compare::calls::{AssemblyCalls, Calls};
 use compare::cases::assembly::Frame;
+use compare::cases::header::{c2, full, reads16};
 use compare::cases::setup::C10;
-use compare::check::{Port, Rng};
-use compare::oracle::Kind;
+use compare::convert::flatten;
+use compare::library::Library;
 use compare::plain::Plain;
-use compare::{cases, oracle};
+use compare::reference::header::{encode, Kind};
+use compare::rng::Rng;
+use compare::words::Words;
+use eoswynnor::ffi::{Agreement, Header, Setup, State};
 use std::hint::black_box;
 use std::ops::Range;
 use std::time::Instant;
@@ -53,14 +57,14 @@ const PIECE: usize = 32 << 10;
 const BASE: usize = 64;
 
 /// C10's values, and a server's.
-const CLIENT: FlatSetup = FlatSetup { remote_invalidation: 1, send: 4096, receive: 8192 };
-const SERVER: FlatSetup = FlatSetup { remote_invalidation: 1, send: 262_144, receive: 3072 };
+const CLIENT: Setup = Setup { remote_invalidation: 1, send: 4096, receive: 8192 };
+const SERVER: Setup = Setup { remote_invalidation: 1, send: 262_144, receive: 3072 };
 
 /// A frame, its header where it has one, the number for an error reply, and for the reassembly a
 /// frame to be started and a message to be filled with the length of a piece.
 struct Input {
     frame: Vec<u8>,
-    flat: Flat,
+    flat: Header,
     number: u32,
     start: Vec<u8>,
     filling: Filling,
@@ -69,11 +73,11 @@ struct Input {
 
 fn input(name: &str) -> Input {
     let header = match name {
-        "reads16" => cases::reads16(),
-        "full" => cases::full(),
-        _ => cases::c2(),
+        "reads16" => reads16(),
+        "full" => full(),
+        _ => c2(),
     };
-    let mut frame = oracle::encode(&header);
+    let mut frame = encode(&header);
     let number = match name {
         "version" => {
             frame[7] = 2; // C3
@@ -104,7 +108,7 @@ fn input(name: &str) -> Input {
 
 /// A message of 1 MiB in so many chunks of equal length, started, with the bytes to be pulled.
 struct Filling {
-    state: FlatState,
+    state: State,
     pulled: Vec<u8>,
     out: Vec<u8>,
     /// Where each run of a piece goes, in order: what bare copying has to do.
@@ -115,10 +119,10 @@ fn filling(chunks: usize) -> Filling {
     let each = (MESSAGE - BASE) / chunks;
     let places: Vec<usize> = (0..chunks).map(|i| 4 + i * (each + 4)).collect();
     let segments: Vec<(u32, u32)> = places.iter().map(|&place| (place as u32, each as u32)).collect();
-    let frame = Frame::new(Kind::Msg, &segments, &Rng(3).noise(BASE)).bytes();
+    let mut frame = Frame::new(Kind::Msg, &segments, &Rng(3).noise(BASE)).bytes();
     let mut out = vec![0; MESSAGE];
-    let mut state = FlatState::ZERO;
-    assert_eq!(Library.start(&frame, &mut out, &mut state), 0);
+    let mut state = State::ZERO;
+    assert_eq!(Library.start(&mut frame, &mut out, &mut state), 0);
     let pulled = Rng(4).noise(each * chunks);
     let mut runs = Vec::new();
     let mut taken = 0;
@@ -132,10 +136,10 @@ fn filling(chunks: usize) -> Filling {
     Filling { state, pulled, out, runs }
 }
 
-fn fill_by<P: Port>(port: &P, filling: &mut Filling) {
+fn fill_by<C: Calls>(maker: &C, filling: &mut Filling) {
     let mut state = filling.state;
-    for piece in filling.pulled.chunks(PIECE) {
-        assert_eq!(port.take_piece(&mut state, black_box(piece), black_box(&mut filling.out)), 0);
+    for piece in filling.pulled.chunks_mut(PIECE) {
+        assert_eq!(maker.take_piece(&mut state, black_box(piece), black_box(&mut filling.out)), 0);
     }
     assert_eq!(state.taken, filling.pulled.len());
 }
@@ -157,49 +161,52 @@ fn repeat<T>(count: u64, mut call: impl FnMut() -> T) {
 }
 
 /// Each maker is lent the same.
-fn calls_of<P: Port>(port: &P, call: &str, input: &mut Input, count: u64) {
-    let Input { frame, flat, number, .. } = &*input;
-    let (mut out, mut length, mut header) = ([0; 1024], 0, Flat::ZERO);
-    let (mut setup, mut present) = (FlatSetup::default(), 0);
-    let (mut agreement, mut credit) = (FlatAgreement::default(), 0);
+fn calls_of<C: Calls>(maker: &C, call: &str, input: &mut Input, count: u64) {
+    let Input { frame, flat, number, .. } = input;
+    let (mut out, mut length, mut header) = ([0; 1024], 0, Header::ZERO);
+    let (mut data, mut setup, mut present) = (C10, Setup::default(), 0);
+    let (mut client, mut server) = (CLIENT, SERVER);
+    let (mut agreement, mut credit) = (Agreement::default(), 0);
     match call {
-        "read" => repeat(count, || port.read(black_box(frame), black_box(&mut header))),
-        "write" => repeat(count, || port.write(black_box(flat), black_box(&mut out), black_box(&mut length))),
-        "read-setup" => {
-            repeat(count, || port.read_setup(black_box(&C10), black_box(&mut setup), black_box(&mut present)))
-        }
-        "write-setup" => repeat(count, || {
-            port.write_setup(black_box(&CLIENT), black_box(&mut out), black_box(&mut length))
+        "read" => repeat(count, || maker.read_header(black_box(frame), black_box(&mut header))),
+        "write" => repeat(count, || {
+            maker.write_header(black_box(&mut *flat), black_box(&mut out), black_box(&mut length))
         }),
-        "agree" => {
-            repeat(count, || port.agree(black_box(&CLIENT), black_box(&SERVER), black_box(&mut agreement)))
-        }
-        "grant" => repeat(count, || port.grant(black_box(100), black_box(32), black_box(&mut credit))),
+        "read-setup" => repeat(count, || {
+            maker.read_setup(black_box(&mut data), black_box(&mut setup), black_box(&mut present))
+        }),
+        "write-setup" => repeat(count, || {
+            maker.write_setup(black_box(&mut client), black_box(&mut out), black_box(&mut length))
+        }),
+        "agree" => repeat(count, || {
+            maker.agree(black_box(&mut client), black_box(&mut server), black_box(&mut agreement))
+        }),
+        "grant" => repeat(count, || maker.grant(black_box(100), black_box(32), black_box(&mut credit))),
         "error-reply" => repeat(count, || {
             let (number, limit) = (black_box(*number), black_box(32));
-            port.error_reply(black_box(frame), number, limit, black_box(&mut out), black_box(&mut length))
+            maker.error_reply(black_box(frame), number, limit, black_box(&mut out), black_box(&mut length))
         }),
-        _ => assembly_calls_of(port, call, input, count),
+        _ => assembly_calls_of(maker, call, input, count),
     }
 }
 
-fn assembly_calls_of<P: Port>(port: &P, call: &str, input: &mut Input, count: u64) {
+fn assembly_calls_of<C: Calls>(maker: &C, call: &str, input: &mut Input, count: u64) {
     let Input { start, filling, piece, .. } = input;
     let Filling { state, pulled, out, .. } = filling;
-    let (mut started, mut length) = (FlatState::ZERO, 0);
-    let mut half = FlatState { taken: TAKEN, ..*state };
-    let whole = FlatState { taken: pulled.len(), ..*state };
-    let piece = &pulled[TAKEN..TAKEN + *piece];
+    let (mut started, mut length) = (State::ZERO, 0);
+    let mut half = State { taken: TAKEN, ..*state };
+    let mut whole = State { taken: pulled.len(), ..*state };
+    let piece = &mut pulled[TAKEN..TAKEN + *piece];
     match call {
-        "start" => repeat(count, || port.start(black_box(start), black_box(out), black_box(&mut started))),
+        "start" => repeat(count, || maker.start(black_box(start), black_box(out), black_box(&mut started))),
         "take" => repeat(count, || {
             half.taken = TAKEN;
-            port.take_piece(black_box(&mut half), black_box(piece), black_box(out))
+            maker.take_piece(black_box(&mut half), black_box(&mut *piece), black_box(out))
         }),
         "message" => {
-            repeat(count, || port.message(black_box(&whole), black_box(out), black_box(&mut length)))
+            repeat(count, || maker.message(black_box(&mut whole), black_box(out), black_box(&mut length)))
         }
-        "fill" => repeat(count, || fill_by(port, filling)),
+        "fill" => repeat(count, || fill_by(maker, filling)),
         _ => panic!("call is a row's, behind lib-, plain- or copy-"),
     }
 }

@@ -1,10 +1,14 @@
 //! Families for the reassembly: starts, single calls with any state, whole lists of calls.
 
-use super::{bases, put, words};
-use crate::abi::{flatten_state, FlatRead, FlatState};
-use crate::assembly::{State, MAX_MESSAGE};
-use crate::check::{Checker, Outcome, Port, Rng, Step};
-use crate::oracle::{encode, Fault, Header, Kind, ReadSegment, Segment, MAX_READS};
+use super::header::bases;
+use super::{put, words};
+use crate::calls::Calls;
+use crate::check::{Checker, Outcome, Step};
+use crate::convert::flatten_state;
+use crate::reference::assembly::{State, MAX_MESSAGE};
+use crate::reference::header::{encode, Fault, Header, Kind, ReadSegment, Segment, MAX_READS};
+use crate::rng::Rng;
+use eoswynnor::ffi;
 
 const KINDS: [Kind; 2] = [Kind::Msg, Kind::Nomsg];
 const MOST: usize = MAX_MESSAGE as usize;
@@ -67,12 +71,6 @@ impl Frame {
 }
 
 impl Rng {
-    pub fn noise(&mut self, length: usize) -> Vec<u8> {
-        let mut bytes = vec![0; length];
-        self.fill(&mut bytes);
-        bytes
-    }
-
     /// Often such that no padding is needed, or nothing at all; now and then long.
     fn total(&mut self) -> u32 {
         match self.below(32) {
@@ -207,7 +205,7 @@ impl Rng {
     }
 
     /// Noise in every unused place and reserved word.
-    fn noisy_state(&mut self, state: &State) -> FlatState {
+    fn noisy_state(&mut self, state: &State) -> ffi::State {
         let mut flat = flatten_state(state);
         for place in &mut flat.reads[state.reads.len()..] {
             *place = ReadSegment { position: self.word(), target: self.segment() }.into();
@@ -251,10 +249,10 @@ fn sixteen() -> [Frame; 2] {
     [Frame::new(Kind::Msg, &chunks(4), &Rng(6).noise(128)), Frame::new(Kind::Nomsg, &zero, &[])]
 }
 
-pub type Named<P> = (&'static str, fn(&mut Checker<P>) -> Outcome);
+pub type Named<C> = (&'static str, fn(&mut Checker<C>) -> Outcome);
 
 /// Document 01's "Errors we made or met", each a case of its own with the outcome that 01 names.
-pub fn mistakes<P: Port>() -> [Named<P>; 6] {
+pub fn mistakes<C: Calls>() -> [Named<C>; 6] {
     [
         ("error: segment padding", |check| check.worked(&c9().bytes(), &PULLED, 0x55, Ok(&C6))),
         ("error: inline positions", |check| {
@@ -282,7 +280,7 @@ pub fn mistakes<P: Port>() -> [Named<P>; 6] {
     ]
 }
 
-fn worked<P: Port>(check: &mut Checker<P>) -> Outcome {
+fn worked<C: Calls>(check: &mut Checker<C>) -> Outcome {
     check.family("worked messages");
     let c2 = words(&[0x2a, 1, 0x20, 0, 0, 0, 0]);
     for held in [0, 0x55, 0xff] {
@@ -304,7 +302,7 @@ fn worked<P: Port>(check: &mut Checker<P>) -> Outcome {
     Ok(())
 }
 
-pub fn starts<P: Port>(check: &mut Checker<P>, rng: &mut Rng, cases: u64) -> Outcome {
+pub fn starts<C: Calls>(check: &mut Checker<C>, rng: &mut Rng, cases: u64) -> Outcome {
     check.family("start every position");
     for shape in 0..2 * 4 * 7 * 4 * 9 * 4 {
         let (kind, base) = (KINDS[shape % 2], 4 * (shape / 2 % 4));
@@ -393,7 +391,7 @@ pub fn starts<P: Port>(check: &mut Checker<P>, rng: &mut Rng, cases: u64) -> Out
 }
 
 /// Lengths whose sums and roundings pass 2^32.
-pub fn sums<P: Port>(check: &mut Checker<P>, rng: &mut Rng) -> Outcome {
+pub fn sums<C: Calls>(check: &mut Checker<C>, rng: &mut Rng) -> Outcome {
     check.family("start sums");
     let lengths = [1, 4, 8, 1 << 28, 1 << 30, 1 << 31, (1 << 31) + 8, u32::MAX - 3, u32::MAX - 2, u32::MAX];
     for (&one, &two) in lengths.iter().flat_map(|one| lengths.iter().map(move |two| (one, two))) {
@@ -423,7 +421,7 @@ pub fn sums<P: Port>(check: &mut Checker<P>, rng: &mut Rng) -> Outcome {
 }
 
 /// Around 1,048,576; only some of them with that much room.
-pub fn largest<P: Port>(check: &mut Checker<P>, rng: &mut Rng) -> Outcome {
+pub fn largest<C: Calls>(check: &mut Checker<C>, rng: &mut Rng) -> Outcome {
     check.family("message limit");
     let mut whole = Vec::new();
     for step in [-8, -5, -4, -3, -1, 0, 1, 3, 4, 8] {
@@ -468,8 +466,8 @@ pub fn largest<P: Port>(check: &mut Checker<P>, rng: &mut Rng) -> Outcome {
             let frame = Frame::new(kind, list, base);
             let state = rng.noisy_state(&frame.state(MOST + 8, 0));
             check.take(&state, &[7; 13], MOST + 8)?;
-            check.ask(&FlatState { taken: frame.pulled(), ..state }, MOST + 8)?;
-            check.ask(&FlatState { base: length, read_count: 0, ..state }, MOST + 8)?;
+            check.ask(&ffi::State { taken: frame.pulled(), ..state }, MOST + 8)?;
+            check.ask(&ffi::State { base: length, read_count: 0, ..state }, MOST + 8)?;
         }
     }
     check.family("largest messages");
@@ -498,7 +496,7 @@ fn split(bytes: &[u8], ends: usize) -> Vec<Step> {
     steps
 }
 
-pub fn splits<P: Port>(check: &mut Checker<P>, rng: &mut Rng) -> Outcome {
+pub fn splits<C: Calls>(check: &mut Checker<C>, rng: &mut Rng) -> Outcome {
     check.family("every split");
     let mut frames = vec![
         c6(),
@@ -543,7 +541,7 @@ pub fn splits<P: Port>(check: &mut Checker<P>, rng: &mut Rng) -> Outcome {
     Ok(())
 }
 
-pub fn lists<P: Port>(check: &mut Checker<P>, rng: &mut Rng, cases: u64) -> Outcome {
+pub fn lists<C: Calls>(check: &mut Checker<C>, rng: &mut Rng, cases: u64) -> Outcome {
     check.family("lists of calls");
     for _ in 0..cases / 4 {
         let kind = KINDS[rng.below(2)];
@@ -579,7 +577,7 @@ pub fn lists<P: Port>(check: &mut Checker<P>, rng: &mut Rng, cases: u64) -> Outc
 }
 
 /// All calls with a state, over its own buffer length if that can be lent, and over another.
-fn every_call<P: Port>(check: &mut Checker<P>, rng: &mut Rng, state: &FlatState, room: usize) -> Outcome {
+fn every_call<C: Calls>(check: &mut Checker<C>, rng: &mut Rng, state: &ffi::State, room: usize) -> Outcome {
     let used = &state.reads[..(state.read_count as usize).min(MAX_READS)];
     let left = used.iter().map(|entry| entry.target.length as usize).sum::<usize>().wrapping_sub(state.taken);
     // Of an altered state any piece will do.
@@ -603,7 +601,7 @@ fn near(value: usize) -> Vec<usize> {
     [&steps[..], &high, &ends].concat()
 }
 
-pub fn states<P: Port>(check: &mut Checker<P>, rng: &mut Rng, cases: u64) -> Outcome {
+pub fn states<C: Calls>(check: &mut Checker<C>, rng: &mut Rng, cases: u64) -> Outcome {
     check.family("states field by field");
     let mut frames = vec![c6(), c7(16), c8(), c9(), Frame::new(Kind::Msg, &[], &[])];
     // All 16 places used, so that a count above leads to no other fault.
@@ -615,7 +613,7 @@ pub fn states<P: Port>(check: &mut Checker<P>, rng: &mut Rng, cases: u64) -> Out
         let taken = [0, to_pull, rng.below(to_pull + 1)][rng.below(3)];
         let good = rng.noisy_state(&frame.state(room, taken));
         let mut altered = vec![good];
-        let mut with = |change: &dyn Fn(&mut FlatState)| {
+        let mut with = |change: &dyn Fn(&mut ffi::State)| {
             let mut state = good;
             change(&mut state);
             altered.push(state);
@@ -632,7 +630,7 @@ pub fn states<P: Port>(check: &mut Checker<P>, rng: &mut Rng, cases: u64) -> Out
         near(good.taken).into_iter().for_each(|value| with(&|state| state.taken = value));
         near(to_pull).into_iter().for_each(|value| with(&|state| state.taken = value));
         for at in 0..MAX_READS {
-            let FlatRead { position, target, reserved } = good.reads[at];
+            let ffi::ReadSegment { position, target, reserved } = good.reads[at];
             for step in [-8, -4, -2, -1, 1, 2, 3, 4, 8] {
                 with(&|state| state.reads[at].position = position.wrapping_add_signed(step));
                 with(&|state| state.reads[at].target.length = target.length.wrapping_add_signed(step));
@@ -726,7 +724,7 @@ pub fn states<P: Port>(check: &mut Checker<P>, rng: &mut Rng, cases: u64) -> Out
     Ok(())
 }
 
-pub fn run<P: Port>(check: &mut Checker<P>, rng: &mut Rng, cases: u64) -> Outcome {
+pub fn run<C: Calls>(check: &mut Checker<C>, rng: &mut Rng, cases: u64) -> Outcome {
     worked(check)?;
     starts(check, rng, cases)?;
     sums(check, rng)?;

@@ -1,7 +1,10 @@
 //! Families for the grant and the error reply.
 
-use super::{bases, edges, put, words};
-use crate::check::{Checker, Outcome, Port, Rng};
+use super::header::bases;
+use super::{edges, put, words};
+use crate::calls::Calls;
+use crate::check::{Checker, Outcome};
+use crate::rng::Rng;
 
 const LIMITS: [u32; 6] = [0, 1, 2, 32, u32::MAX - 1, u32::MAX];
 
@@ -52,7 +55,7 @@ fn around(limit: u32) -> [u32; 7] {
     [0, 1, limit.wrapping_sub(1), limit, limit.wrapping_add(1), u32::MAX - 1, u32::MAX]
 }
 
-fn grants<P: Port>(check: &mut Checker<P>, rng: &mut Rng, cases: u64) -> Outcome {
+fn grants<C: Calls>(check: &mut Checker<C>, rng: &mut Rng, cases: u64) -> Outcome {
     check.family("grant");
     for limit in edges() {
         edges().into_iter().chain(around(limit)).try_for_each(|asked| check.grant(asked, limit))?;
@@ -65,7 +68,7 @@ fn grants<P: Port>(check: &mut Checker<P>, rng: &mut Rng, cases: u64) -> Outcome
     Ok(())
 }
 
-fn replies<P: Port>(check: &mut Checker<P>, rng: &mut Rng, cases: u64) -> Outcome {
+fn replies<C: Calls>(check: &mut Checker<C>, rng: &mut Rng, cases: u64) -> Outcome {
     check.family("reply numbers");
     for (number, procedure) in numbers().flat_map(|number| procedures().map(move |p| (number, p))) {
         for version in [1, 2, 0x0100_0000] {
@@ -119,7 +122,7 @@ fn replies<P: Port>(check: &mut Checker<P>, rng: &mut Rng, cases: u64) -> Outcom
 }
 
 /// Frames of all sorts, each with the number that reading it gives.
-fn after_reading<P: Port>(check: &mut Checker<P>, rng: &mut Rng, cases: u64) -> Outcome {
+fn after_reading<C: Calls>(check: &mut Checker<C>, rng: &mut Rng, cases: u64) -> Outcome {
     check.family("read then reply");
     for header in bases(rng) {
         let frame = rng.frame(&header, 9);
@@ -148,7 +151,7 @@ fn after_reading<P: Port>(check: &mut Checker<P>, rng: &mut Rng, cases: u64) -> 
     Ok(())
 }
 
-pub fn run<P: Port>(check: &mut Checker<P>, rng: &mut Rng, cases: u64) -> Outcome {
+pub fn run<C: Calls>(check: &mut Checker<C>, rng: &mut Rng, cases: u64) -> Outcome {
     grants(check, rng, cases)?;
     replies(check, rng, cases)?;
     after_reading(check, rng, cases)

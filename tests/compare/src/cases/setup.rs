@@ -1,9 +1,11 @@
 //! Families for setup data and for what follows from two of them.
 
 use super::edges;
-use crate::abi::FlatSetup;
-use crate::check::{Checker, Outcome, Port, Rng};
-use crate::setup::{IDENTIFIER, LENGTH, VERSION};
+use crate::calls::Calls;
+use crate::check::{Checker, Outcome};
+use crate::reference::setup::{IDENTIFIER, LENGTH, VERSION};
+use crate::rng::Rng;
+use eoswynnor::ffi;
 
 /// C10's bytes.
 pub const C10: [u8; LENGTH] = [0xf6, 0xab, 0x0e, 0x18, 1, 1, 3, 7];
@@ -42,8 +44,8 @@ impl Rng {
         }
     }
 
-    fn setup(&mut self) -> FlatSetup {
-        FlatSetup { remote_invalidation: self.below(2) as u32, send: self.size(), receive: self.size() }
+    fn setup(&mut self) -> ffi::Setup {
+        ffi::Setup { remote_invalidation: self.below(2) as u32, send: self.size(), receive: self.size() }
     }
 
     /// Setup data with any flags and sizes, and noise behind it.
@@ -68,11 +70,11 @@ impl Rng {
     }
 }
 
-fn every_length<P: Port>(check: &mut Checker<P>, data: &[u8]) -> Outcome {
+fn every_length<C: Calls>(check: &mut Checker<C>, data: &[u8]) -> Outcome {
     (0..=data.len()).try_for_each(|length| check.read_setup(data, length))
 }
 
-fn reading<P: Port>(check: &mut Checker<P>, rng: &mut Rng, cases: u64) -> Outcome {
+fn reading<C: Calls>(check: &mut Checker<C>, rng: &mut Rng, cases: u64) -> Outcome {
     let mut bases = vec![C10.to_vec(), rng.setup_data(0), rng.setup_data(1), rng.setup_data(32)];
     bases.extend([[0, 0, 0], [1, 0, 0], [0, 255, 0], [1, 255, 255], [0xfe, 3, 7]].map(|end| {
         let mut data = C10.to_vec();
@@ -132,7 +134,7 @@ fn reading<P: Port>(check: &mut Checker<P>, rng: &mut Rng, cases: u64) -> Outcom
     })
 }
 
-fn writing<P: Port>(check: &mut Checker<P>, rng: &mut Rng, cases: u64) -> Outcome {
+fn writing<C: Calls>(check: &mut Checker<C>, rng: &mut Rng, cases: u64) -> Outcome {
     let flags = [0, 1, 2, u32::MAX];
     check.family("setup write sizes");
     let near = (0..=258).flat_map(|n| [-1, 0, 1].map(|step| (n * 1024u32).wrapping_add_signed(step)));
@@ -141,8 +143,8 @@ fn writing<P: Port>(check: &mut Checker<P>, rng: &mut Rng, cases: u64) -> Outcom
             [1024, 4096, 262_144, 0, 1025, u32::MAX].iter().flat_map(|&other| flags.map(|flag| (other, flag)))
         {
             for room in [0, 7, 8, 40] {
-                check.write_setup(FlatSetup { remote_invalidation, send: size, receive: other }, room)?;
-                check.write_setup(FlatSetup { remote_invalidation, send: other, receive: size }, room)?;
+                check.write_setup(ffi::Setup { remote_invalidation, send: size, receive: other }, room)?;
+                check.write_setup(ffi::Setup { remote_invalidation, send: other, receive: size }, room)?;
             }
         }
     }
@@ -151,32 +153,32 @@ fn writing<P: Port>(check: &mut Checker<P>, rng: &mut Rng, cases: u64) -> Outcom
         (1..=256).flat_map(|send| (1..=256).map(move |receive| (send * 1024, receive * 1024)))
     {
         let remote_invalidation = rng.below(2) as u32;
-        check.write_setup(FlatSetup { remote_invalidation, send, receive }, 8 + rng.below(3))?;
+        check.write_setup(ffi::Setup { remote_invalidation, send, receive }, 8 + rng.below(3))?;
     }
     check.family("setup write rooms");
     for (send, receive) in SIZES.iter().flat_map(|&send| SIZES.map(|receive| (send, receive))) {
         for (remote_invalidation, room) in
             flags.iter().flat_map(|&flag| (0..=40).map(move |room| (flag, room)))
         {
-            check.write_setup(FlatSetup { remote_invalidation, send, receive }, room)?;
+            check.write_setup(ffi::Setup { remote_invalidation, send, receive }, room)?;
         }
     }
     check.family("setup write flags");
     for remote_invalidation in edges() {
         for room in [0, 7, 8, 9] {
-            check.write_setup(FlatSetup { remote_invalidation, ..rng.setup() }, room)?;
+            check.write_setup(ffi::Setup { remote_invalidation, ..rng.setup() }, room)?;
         }
     }
     check.family("setup write random");
     for _ in 0..cases {
         let remote_invalidation = [rng.below(2) as u32, rng.word()][rng.below(2)];
-        let setup = FlatSetup { remote_invalidation, send: rng.any_size(), receive: rng.any_size() };
+        let setup = ffi::Setup { remote_invalidation, send: rng.any_size(), receive: rng.any_size() };
         check.write_setup(setup, [8, rng.below(41)][rng.below(2)])?;
     }
     Ok(())
 }
 
-fn round_trips<P: Port>(check: &mut Checker<P>, rng: &mut Rng) -> Outcome {
+fn round_trips<C: Calls>(check: &mut Checker<C>, rng: &mut Rng) -> Outcome {
     check.family("setup read then write");
     for pair in 0..=u16::MAX {
         let [send, receive] = pair.to_be_bytes();
@@ -194,27 +196,27 @@ fn round_trips<P: Port>(check: &mut Checker<P>, rng: &mut Rng) -> Outcome {
         (1..=256).flat_map(|send| (1..=256).map(move |receive| (send * 1024, receive * 1024)))
     {
         for remote_invalidation in [0, 1] {
-            let setup = FlatSetup { remote_invalidation, send, receive };
+            let setup = ffi::Setup { remote_invalidation, send, receive };
             check.write_read_setup(setup, LENGTH + rng.below(9))?;
         }
     }
     Ok(())
 }
 
-fn agreements<P: Port>(check: &mut Checker<P>, rng: &mut Rng, cases: u64) -> Outcome {
+fn agreements<C: Calls>(check: &mut Checker<C>, rng: &mut Rng, cases: u64) -> Outcome {
     check.family("agreement grid");
-    let setups: Vec<FlatSetup> = SIZES
+    let setups: Vec<ffi::Setup> = SIZES
         .iter()
         .flat_map(|&send| SIZES.map(|receive| (send, receive)))
-        .flat_map(|(send, receive)| [0, 1, 2].map(|r| FlatSetup { remote_invalidation: r, send, receive }))
+        .flat_map(|(send, receive)| [0, 1, 2].map(|r| ffi::Setup { remote_invalidation: r, send, receive }))
         .collect();
     for client in &setups {
         setups.iter().try_for_each(|server| check.agree(*client, *server))?;
     }
     check.family("agreement all sizes");
     for (one, two) in (1..=256).flat_map(|one| (1..=256).map(move |two| (one * 1024, two * 1024))) {
-        check.agree(FlatSetup { send: one, ..rng.setup() }, FlatSetup { receive: two, ..rng.setup() })?;
-        check.agree(FlatSetup { receive: one, ..rng.setup() }, FlatSetup { send: two, ..rng.setup() })?;
+        check.agree(ffi::Setup { send: one, ..rng.setup() }, ffi::Setup { receive: two, ..rng.setup() })?;
+        check.agree(ffi::Setup { receive: one, ..rng.setup() }, ffi::Setup { send: two, ..rng.setup() })?;
     }
     check.family("agreement one place");
     for edge in edges() {
@@ -229,8 +231,8 @@ fn agreements<P: Port>(check: &mut Checker<P>, rng: &mut Rng, cases: u64) -> Out
     for _ in 0..cases {
         let both = [rng.setup(), rng.setup()];
         let [client, server] = both.map(|setup| match rng.below(6) {
-            0 => FlatSetup { send: rng.any_size(), ..setup },
-            1 => FlatSetup { receive: rng.any_size(), ..setup },
+            0 => ffi::Setup { send: rng.any_size(), ..setup },
+            1 => ffi::Setup { receive: rng.any_size(), ..setup },
             _ => setup,
         });
         check.agree(client, server)?;
@@ -239,7 +241,7 @@ fn agreements<P: Port>(check: &mut Checker<P>, rng: &mut Rng, cases: u64) -> Out
     (0..cases).try_for_each(|_| check.read_agree(&rng.any_data(), &rng.any_data()))
 }
 
-pub fn run<P: Port>(check: &mut Checker<P>, rng: &mut Rng, cases: u64) -> Outcome {
+pub fn run<C: Calls>(check: &mut Checker<C>, rng: &mut Rng, cases: u64) -> Outcome {
     reading(check, rng, cases)?;
     writing(check, rng, cases)?;
     round_trips(check, rng)?;

@@ -1,13 +1,17 @@
-//! The checks of start, piece and message: call by call beside the oracle, list by list
+//! The checks of start, piece and message: call by call beside the reference, list by list
 //! beside the tally, one cut beside another, and beside bytes that document 01 names.
 
-use super::{hex, Call, Checker, Form, Outcome, Place, Port};
-use crate::abi::{flatten_state, unflatten_state, FlatState, NOMSG};
-use crate::assembly::{self, MAX_MESSAGE};
-use crate::oracle::MAX_READS;
+use super::lent::{Buffer, Place};
+use super::seen::{Call, Form};
+use super::{hex, Checker, Outcome};
+use crate::calls::Calls;
+use crate::convert::{flatten_state, unflatten_state};
+use crate::reference::assembly::{self, MAX_MESSAGE};
+use crate::reference::header::MAX_READS;
 use crate::tally::Tally;
+use crate::words::Words;
+use eoswynnor::ffi::{State, NOMSG};
 use std::fmt;
-use std::ops::Range;
 
 /// One of the calls behind a start.
 #[derive(Clone, PartialEq)]
@@ -42,14 +46,13 @@ struct Trace {
     buffer: Vec<u8>,
 }
 
-impl<P: Port> Checker<P> {
+impl<C: Calls> Checker<C> {
     /// The start of the first `length` bytes, with the others lying behind.
     pub fn start_part(&mut self, bytes: &[u8], length: usize, room: usize) -> Outcome {
         self.count();
-        let lent = self.lend(room);
-        let mut want = self.before.clone();
-        self.begin(bytes, length, &lent, &mut want).map(drop).map_err(|what| {
-            let (frame, buffer) = (short(&bytes[..length]), short(&self.before[lent]));
+        self.memory.noise(room, &mut self.noise);
+        self.begin(bytes, length).map(drop).map_err(|what| {
+            let (frame, buffer) = (short(&bytes[..length]), short(self.memory.before()));
             format!("{what}\nframe ({length} bytes): {frame}\nbuffer before ({room} bytes): {buffer}")
         })
     }
@@ -58,103 +61,76 @@ impl<P: Port> Checker<P> {
         self.start_part(frame, frame.len(), room)
     }
 
-    /// The implementation's start over the memory, the oracle's over `want`; its number and the
-    /// state as it leaves it.
-    fn begin(
-        &mut self,
-        bytes: &[u8],
-        length: usize,
-        lent: &Range<usize>,
-        want: &mut [u8],
-    ) -> Result<(u32, FlatState), String> {
-        let from = self.surround(bytes);
+    /// The implementation's start over the memory, beside the reference's; its number and the state
+    /// as it leaves it.
+    fn begin(&mut self, bytes: &[u8], length: usize) -> Result<(u32, State), String> {
+        self.input.hold(bytes, length, &mut self.noise);
         let mut state = Place::noise(&mut self.noise);
-        let frame = &self.input[from..from + length];
-        let number = self.port.start(frame, &mut self.memory[lent.clone()], state.lent());
+        let number = self.calls.start(&mut self.input, self.memory.lent(), &mut state)?;
         self.seen.number(Call::Start, number);
-        let right = assembly::start(&bytes[..length], &mut want[lent.clone()]);
+        let right = assembly::start(&bytes[..length], self.memory.want());
         state.judge(number, right.map(|state| flatten_state(&state)))?;
-        self.same_input(from, bytes)?;
-        self.same_memory(lent, want)?;
+        self.memory.judge()?;
         Ok((number, state.now.value))
     }
 
-    fn same_input(&self, from: usize, bytes: &[u8]) -> Outcome {
-        if self.input[from..from + bytes.len()] != *bytes {
-            return Err("a byte lent for reading was changed".to_string());
-        }
-        Ok(())
-    }
-
     /// Any state and a piece, over a buffer of any length that holds noise.
-    pub fn take(&mut self, state: &FlatState, piece: &[u8], room: usize) -> Outcome {
+    pub fn take(&mut self, state: &State, piece: &[u8], room: usize) -> Outcome {
         self.count();
-        let lent = self.lend(room);
-        let mut want = self.before.clone();
-        self.take_over(state, piece, &lent, &mut want).map(drop).map_err(|what| {
-            let (length, piece, buffer) = (piece.len(), short(piece), short(&self.before[lent]));
+        self.memory.noise(room, &mut self.noise);
+        self.take_over(state, piece).map(drop).map_err(|what| {
+            let (length, piece, buffer) = (piece.len(), short(piece), short(self.memory.before()));
             format!("{what}\n{state:?}\npiece ({length} bytes): {piece}\nbuffer ({room} bytes): {buffer}")
         })
     }
 
-    fn take_over(
-        &mut self,
-        state: &FlatState,
-        piece: &[u8],
-        lent: &Range<usize>,
-        want: &mut [u8],
-    ) -> Result<(u32, FlatState), String> {
-        let from = self.surround(piece);
+    fn take_over(&mut self, state: &State, piece: &[u8]) -> Result<(u32, State), String> {
+        self.input.hold(piece, piece.len(), &mut self.noise);
         let mut place = Place::holding(*state, &mut self.noise);
-        let lent_piece = &self.input[from..from + piece.len()];
-        let number = self.port.take_piece(place.lent(), lent_piece, &mut self.memory[lent.clone()]);
+        let number = self.calls.take_piece(&mut place, &mut self.input, self.memory.lent())?;
         self.seen.number(Call::Piece, number);
         // Only the count may change; unused places, reserved words and all else stay as handed in.
         let right = unflatten_state(state).and_then(|mut natural| {
-            assembly::take(&mut natural, piece, &mut want[lent.clone()])?;
-            Ok(FlatState { taken: natural.taken, ..*state })
+            assembly::take(&mut natural, piece, self.memory.want())?;
+            Ok(State { taken: natural.taken, ..*state })
         });
         place.judge(number, right)?;
-        self.same_input(from, piece)?;
-        self.same_memory(lent, want)?;
+        self.memory.judge()?;
         Ok((number, place.now.value))
     }
 
     /// Asking for the message, with any state and a buffer of any length.
-    pub fn ask(&mut self, state: &FlatState, room: usize) -> Outcome {
+    pub fn ask(&mut self, state: &State, room: usize) -> Outcome {
         self.count();
-        let lent = self.lend(room);
-        let want = self.before.clone();
-        self.ask_over(state, &lent, &want)
-            .map(drop)
-            .map_err(|what| format!("{what}\n{state:?}\nbuffer of {room} bytes"))
+        self.memory.noise(room, &mut self.noise);
+        self.ask_over(state).map(drop).map_err(|what| format!("{what}\n{state:?}\nbuffer of {room} bytes"))
     }
 
-    fn ask_over(&mut self, state: &FlatState, lent: &Range<usize>, want: &[u8]) -> Result<u32, String> {
+    fn ask_over(&mut self, state: &State) -> Result<u32, String> {
         let mut length = Place::noise(&mut self.noise);
-        let number = self.port.message(state, &mut self.memory[lent.clone()], length.lent());
+        let mut place = Place::holding(*state, &mut self.noise.aside());
+        let number = self.calls.message(&mut place, &mut self.memory, &mut length)?;
         self.seen.number(Call::Message, number);
-        let right = unflatten_state(state).and_then(|state| assembly::ask(&state, lent.len()));
+        let room = self.memory.bytes().len();
+        let right = unflatten_state(state).and_then(|state| assembly::ask(&state, room));
         length.judge(number, right).map_err(|what| format!("message: {what}"))?;
-        self.same_memory(lent, want)?;
         Ok(number)
     }
 
     /// A start and a list of calls, each with the state last given back and the buffer as last
-    /// left; beside the oracle after each call.
+    /// left; beside the reference after each call.
     pub fn way(&mut self, frame: &[u8], before: &[u8], steps: &[Step]) -> Outcome {
         self.count();
-        let lent = self.lend(before.len());
-        self.memory[lent.clone()].copy_from_slice(before);
-        self.walk(frame, &lent, steps).map_err(|what| told(what, &[frame], before, &[steps]))
+        self.memory.noise(before.len(), &mut self.noise);
+        self.memory.set(before);
+        self.walk(frame, steps).map_err(|what| told(what, &[frame], before, &[steps]))
     }
 
-    fn walk(&mut self, frame: &[u8], lent: &Range<usize>, steps: &[Step]) -> Outcome {
-        let mut want = self.memory.clone();
-        let (number, mut state) = self.begin(frame, frame.len(), lent, &mut want)?;
+    fn walk(&mut self, frame: &[u8], steps: &[Step]) -> Outcome {
+        let (number, mut state) = self.begin(frame, frame.len())?;
         // Behind a refused start any state may be handed on: the noise, or as often zeros.
         if number != 0 && self.noise.below(2) == 0 {
-            state = FlatState::ZERO;
+            state = State::ZERO;
         }
         // Reserved words are ignored; every piece must keep them.
         if self.noise.below(2) == 0 {
@@ -164,9 +140,8 @@ impl<P: Port> Checker<P> {
         for (at, step) in steps.iter().enumerate() {
             let number = match step {
                 Step::Piece(piece) => {
-                    let (number, next) = self
-                        .take_over(&state, piece, lent, &mut want)
-                        .map_err(|what| format!("call {at}: {what}"))?;
+                    let (number, next) =
+                        self.take_over(&state, piece).map_err(|what| format!("call {at}: {what}"))?;
                     state = next;
                     if finished && piece.is_empty() {
                         self.seen.form(Form::EmptyPieceAtEnd);
@@ -174,8 +149,7 @@ impl<P: Port> Checker<P> {
                     number
                 }
                 Step::Ask => {
-                    let number =
-                        self.ask_over(&state, lent, &want).map_err(|what| format!("call {at}: {what}"))?;
+                    let number = self.ask_over(&state).map_err(|what| format!("call {at}: {what}"))?;
                     finished |= number == 0;
                     number
                 }
@@ -188,7 +162,7 @@ impl<P: Port> Checker<P> {
         Ok(())
     }
 
-    fn finished(&mut self, state: &FlatState, refused: bool) {
+    fn finished(&mut self, state: &State, refused: bool) {
         let natural = unflatten_state(state).expect("a finished state");
         let length = assembly::ask(&natural, state.buffer).expect("a finished state");
         let inline = if state.kind == NOMSG { 0 } else { state.base };
@@ -203,40 +177,42 @@ impl<P: Port> Checker<P> {
         forms.into_iter().filter(|(_, seen)| *seen).for_each(|(form, _)| self.seen.form(form));
     }
 
-    /// The implementation alone, with no look at the oracle.
+    /// The implementation alone, with no look at the reference.
     fn trace(&mut self, frame: &[u8], before: &[u8], steps: &[Step]) -> Result<Trace, String> {
-        let lent = self.lend(before.len());
-        let buffer = &mut self.memory[lent.clone()];
-        buffer.copy_from_slice(before);
-        let mut place = Place::noise(&mut self.noise);
-        let start = self.port.start(frame, buffer, place.lent());
+        self.memory.noise(before.len(), &mut self.noise);
+        self.memory.set(before);
+        let mut state = Place::noise(&mut self.noise);
+        let aside = &mut self.noise.aside();
+        let start = self.calls.start(&mut Buffer::holding(frame, aside), self.memory.lent(), &mut state)?;
         if start != 0 {
-            place.kept()?;
+            state.kept()?;
         }
-        let mut state = place.now.value;
         let mut answers = Vec::new();
         for step in steps {
             answers.push(match step {
-                Step::Piece(piece) => (self.port.take_piece(&mut state, piece, buffer), Vec::new()),
-                Step::Ask => {
-                    let mut length = Place::noise(&mut self.noise);
-                    let number = self.port.message(&state, buffer, length.lent());
-                    if number != 0 {
-                        length.kept()?;
-                    }
-                    let length = if number == 0 { length.now.value } else { 0 };
-                    let bytes = buffer.get(..length);
-                    (number, bytes.ok_or(format!("{length} bytes lie outside the buffer"))?.to_vec())
+                Step::Piece(piece) => {
+                    let mut piece = Buffer::holding(piece, aside);
+                    (self.calls.take_piece(&mut state, &mut piece, self.memory.lent())?, Vec::new())
                 }
+                Step::Ask => self.asked(&mut state)?,
             });
         }
-        let buffer = buffer.to_vec();
-        for outside in [0..lent.start, lent.end..self.memory.len()] {
-            if self.memory[outside.clone()] != self.before[outside] {
-                return Err("a byte outside the buffer was changed".to_string());
-            }
+        // What the state holds is for the caller to judge; beside it nothing may have changed.
+        state.holds(state.now.value)?;
+        self.memory.judge_outside()?;
+        Ok(Trace { start, answers, count: state.now.value.taken, buffer: self.memory.bytes().to_vec() })
+    }
+
+    /// The number and the message.
+    fn asked(&mut self, state: &mut Place<State>) -> Result<(u32, Vec<u8>), String> {
+        let mut length = Place::noise(&mut self.noise);
+        let number = self.calls.message(state, &mut self.memory, &mut length)?;
+        if number != 0 {
+            length.kept()?;
         }
-        Ok(Trace { start, answers, count: state.taken, buffer })
+        let length = if number == 0 { length.now.value } else { 0 };
+        let bytes = self.memory.bytes().get(..length);
+        Ok((number, bytes.ok_or(format!("{length} bytes lie outside the buffer"))?.to_vec()))
     }
 
     /// Demand 3: any cut of an accepted start and any list, beside the tally, which sees no cut.

@@ -1,0 +1,119 @@
+//! The structs and calls of include/eoswynnor.h, under its names without `eos_`. What a caller has to keep to is said
+//! there.
+
+/// Memory that the other side registered.
+#[repr(C)]
+#[derive(Clone, Copy, Debug, Default, PartialEq, Eq)]
+pub struct Segment {
+    pub handle: u32,
+    pub length: u32,
+    pub offset: u64,
+}
+
+#[repr(C)]
+#[derive(Clone, Copy, Debug, Default, PartialEq, Eq)]
+pub struct ReadSegment {
+    pub position: u32,
+    /// Fills what would be a hole.
+    pub reserved: u32,
+    pub target: Segment,
+}
+
+pub const MSG: u32 = 0;
+pub const NOMSG: u32 = 1;
+pub const ERROR_VERSION: u32 = 2;
+pub const ERROR_CHUNK: u32 = 3;
+
+#[repr(C)]
+#[derive(Clone, Copy, Debug, Default, PartialEq, Eq)]
+pub struct Header {
+    pub reads: [ReadSegment; 16],
+    pub writes: [Segment; 16],
+    pub reply: [Segment; 16],
+    pub write_counts: [u32; 4],
+    pub read_count: u32,
+    pub write_chunks: u32,
+    pub reply_present: u32,
+    pub reply_count: u32,
+    pub kind: u32,
+    pub low: u32,
+    pub high: u32,
+    pub xid: u32,
+    pub credit: u32,
+    pub reserved: u32,
+}
+
+#[repr(C)]
+#[derive(Clone, Copy, Debug, Default, PartialEq, Eq)]
+pub struct Part {
+    pub offset: usize,
+    pub length: usize,
+}
+
+#[repr(C)]
+#[derive(Clone, Copy, Debug, Default, PartialEq, Eq)]
+pub struct Setup {
+    pub remote_invalidation: u32,
+    pub send: u32,
+    pub receive: u32,
+}
+
+#[repr(C)]
+#[derive(Clone, Copy, Debug, Default, PartialEq, Eq)]
+pub struct Agreement {
+    pub client_to_server: u32,
+    pub server_to_client: u32,
+    pub remote_invalidation: u32,
+}
+
+#[repr(C)]
+#[derive(Clone, Copy, Debug, Default, PartialEq, Eq)]
+pub struct State {
+    pub reads: [ReadSegment; 16],
+    pub base: usize,
+    pub buffer: usize,
+    pub taken: usize,
+    pub read_count: u32,
+    pub kind: u32,
+}
+
+// As many bytes as the fields have together: no holes.
+const _: () = assert!(size_of::<Segment>() == 16 && size_of::<ReadSegment>() == 24);
+const _: () = assert!(size_of::<Header>() == 16 * (24 + 16 + 16) + 14 * 4);
+const _: () = assert!(size_of::<Part>() == 2 * 8);
+const _: () = assert!(size_of::<Setup>() == 3 * 4 && size_of::<Agreement>() == 3 * 4);
+const _: () = assert!(size_of::<State>() == 16 * 24 + 3 * 8 + 2 * 4);
+
+extern "C" {
+    pub fn eos_read_header(frame: *const u8, frame_len: usize, header: *mut Header) -> u32;
+    pub fn eos_payload(frame: *const u8, frame_len: usize) -> Part;
+    pub fn eos_write_header(header: *const Header, out: *mut u8, out_len: usize, length: *mut usize) -> u32;
+    pub fn eos_read_setup(bytes: *const u8, bytes_len: usize, setup: *mut Setup, present: *mut u32) -> u32;
+    pub fn eos_write_setup(setup: *const Setup, out: *mut u8, out_len: usize, length: *mut usize) -> u32;
+    pub fn eos_agree(client: *const Setup, server: *const Setup, agreement: *mut Agreement) -> u32;
+    pub fn eos_grant(asked: u32, limit: u32, credit: *mut u32) -> u32;
+    pub fn eos_error_reply(
+        frame: *const u8,
+        frame_len: usize,
+        number: u32,
+        limit: u32,
+        out: *mut u8,
+        out_len: usize,
+        length: *mut usize,
+    ) -> u32;
+    pub fn eos_start(
+        frame: *const u8,
+        frame_len: usize,
+        out: *mut u8,
+        out_len: usize,
+        state: *mut State,
+    ) -> u32;
+    pub fn eos_take_piece(
+        state: *mut State,
+        piece: *const u8,
+        piece_len: usize,
+        out: *mut u8,
+        out_len: usize,
+    ) -> u32;
+    pub fn eos_message(state: *const State, out: *const u8, out_len: usize, length: *mut usize) -> u32;
+}

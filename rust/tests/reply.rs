@@ -1,0 +1,25 @@
+//! Grants and error replies.
+
+mod common;
+
+use common::c6;
+use eoswynnor::{error_reply, grant, Refusal, MAX_REPLY};
+
+#[test]
+fn replies_and_refusals() {
+    let mut room = [0; MAX_REPLY];
+    assert_eq!(error_reply(&c6(), Refusal(14), 32, &mut room).map(<[u8]>::len), Ok(20));
+    assert_eq!(error_reply(&c6(), Refusal(2), 32, &mut room).map(<[u8]>::len), Ok(28));
+    assert_eq!(error_reply(&c6(), Refusal(19), 32, &mut room), Ok(&[][..]));
+    assert_eq!(error_reply(&c6(), Refusal(2), 32, &mut room[..27]), Err(Refusal(16)));
+}
+
+#[test]
+fn grants() {
+    assert_eq!((grant(0, 32), grant(100, 32), grant(1, 0)), (Ok(1), Ok(32), Err(Refusal(20))));
+}
+
+#[test]
+fn a_refusal_has_its_text() {
+    assert_eq!(Refusal(14).to_string(), "a chunk's position overlaps or lies past the base");
+}

@@ -1,0 +1,57 @@
+/* random_reply [ROUNDS [SEED]]: grants and error replies, on random, written and damaged frames. */
+#include "random.h"
+
+static void reply_one(struct lent frame, uint32_t number)
+{
+    uint32_t limit = edge();
+    struct lent out = lend(below(EOS_MAX_REPLY + 8));
+    struct lent was = copy_of(out.bytes, out.length);
+    size_t before = (size_t)any(), length = before;
+    uint8_t *lent = remember(frame.bytes, frame.length);
+    uint32_t done = eos_error_reply(frame.bytes, frame.length, number, limit, out.bytes, out.length, &length);
+    unchanged(frame.bytes, frame.length, lent);
+    length = stored(done, ROOM_NUMBERS, before, length);
+    CHECK(length <= out.length && same_behind(out, was, length));
+    CHECK(length == 0 || length == 20 || length == EOS_MAX_REPLY);
+    if (length > 0) {
+        struct eos_header h;
+        CHECK(eos_read_header(out.bytes, length, &h) == EOS_DONE && memcmp(out.bytes, frame.bytes, 4) == 0);
+        CHECK(h.kind == (length == 20 ? EOS_ERROR_CHUNK : EOS_ERROR_VERSION));
+        CHECK(1 <= h.credit && h.credit <= limit);
+    }
+    give_back(was);
+    give_back(out);
+}
+
+static void grant_one(void)
+{
+    uint32_t asked = edge(), limit = edge(), credit_before = (uint32_t)any(), credit = credit_before;
+    uint32_t granted = eos_grant(asked, limit, &credit);
+    answered(granted, ARGUMENT_NUMBERS);
+    CHECK((granted == EOS_DONE) == (limit > 0));
+    CHECK(granted == EOS_DONE ? 0 < credit && credit <= limit : credit == credit_before);
+}
+
+/* The number that a reassembly of the frame starts with. */
+static uint32_t start_number(struct lent frame)
+{
+    struct eos_state s;
+    struct lent out = lend(below(100));
+    uint32_t number = eos_start(frame.bytes, frame.length, out.bytes, out.length, &s);
+    give_back(out);
+    return number;
+}
+
+static void one_round(void)
+{
+    struct lent frame = some_frame();
+    reply_one(frame, start_number(frame));
+    reply_one(frame, below(24));
+    give_back(frame);
+    grant_one();
+}
+
+int main(int argc, char **argv)
+{
+    return make_rounds(argc, argv, "reply", one_round, ROOM_NUMBERS);
+}

@@ -1,0 +1,41 @@
+//! What an implementation under comparison has: the calls of include/eoswynnor.h. Each answers its
+//! number and stores what it makes.
+//!
+//! All is lent for writing, also what a call may only read: an implementation that changes it can
+//! then be written, and the comparison afterwards is one that the compiler may not leave out.
+
+use eoswynnor::ffi;
+
+pub trait HeaderCalls {
+    fn read_header(&self, frame: &mut [u8], header: &mut ffi::Header) -> u32;
+    fn payload(&self, frame: &mut [u8]) -> ffi::Part;
+    fn write_header(&self, header: &mut ffi::Header, out: &mut [u8], length: &mut usize) -> u32;
+}
+
+pub trait SetupCalls {
+    fn read_setup(&self, data: &mut [u8], setup: &mut ffi::Setup, present: &mut u32) -> u32;
+    fn write_setup(&self, setup: &mut ffi::Setup, out: &mut [u8], length: &mut usize) -> u32;
+    fn agree(&self, client: &mut ffi::Setup, server: &mut ffi::Setup, both: &mut ffi::Agreement) -> u32;
+}
+
+pub trait ReplyCalls {
+    fn grant(&self, asked: u32, limit: u32, credit: &mut u32) -> u32;
+    fn error_reply(
+        &self,
+        frame: &mut [u8],
+        number: u32,
+        limit: u32,
+        out: &mut [u8],
+        length: &mut usize,
+    ) -> u32;
+}
+
+pub trait AssemblyCalls {
+    fn start(&self, frame: &mut [u8], out: &mut [u8], state: &mut ffi::State) -> u32;
+    fn take_piece(&self, state: &mut ffi::State, piece: &mut [u8], out: &mut [u8]) -> u32;
+    fn message(&self, state: &mut ffi::State, out: &mut [u8], length: &mut usize) -> u32;
+}
+
+pub trait Calls: HeaderCalls + SetupCalls + ReplyCalls + AssemblyCalls {}
+
+impl<T: HeaderCalls + SetupCalls + ReplyCalls + AssemblyCalls> Calls for T {}

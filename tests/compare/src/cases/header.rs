@@ -1,0 +1,476 @@
+//! Families for headers: reading, writing, and both in turn.
+
+use super::{edges, put, words};
+use crate::calls::Calls;
+use crate::check::{Checker, Outcome};
+use crate::convert::{flatten, unflatten};
+use crate::reference::header::{encode, Fault, Header, Kind, ReadSegment, Reply, Segment};
+use crate::rng::Rng;
+use eoswynnor::ffi;
+
+impl Rng {
+    pub(super) fn segment(&mut self) -> Segment {
+        let offset = u64::from(self.word()) << 32 | u64::from(self.word());
+        Segment { handle: self.word(), length: self.word(), offset }
+    }
+
+    fn segments(&mut self, count: usize) -> Vec<Segment> {
+        (0..count).map(|_| self.segment()).collect()
+    }
+
+    /// Positions are multiples of 4 that never fall and often are equal.
+    fn reads(&mut self, count: usize) -> Vec<ReadSegment> {
+        let most = [u32::MAX, 40][self.below(2)];
+        let mut positions: Vec<u32> = (0..count).map(|_| self.word().min(most) & !3).collect();
+        positions.sort();
+        positions.into_iter().map(|position| ReadSegment { position, target: self.segment() }).collect()
+    }
+
+    fn header(&mut self, kind: Kind, reads: usize, counts: &[usize], reply: Option<usize>) -> Header {
+        Header {
+            xid: self.word(),
+            credit: self.word(),
+            kind,
+            reads: self.reads(reads),
+            writes: counts.iter().map(|&count| self.segments(count)).collect(),
+            reply: Reply { present: reply.is_some(), segments: self.segments(reply.unwrap_or(0)) },
+        }
+    }
+
+    fn error(&mut self) -> Header {
+        let version = Fault::Version { low: self.word(), high: self.word() };
+        let fault = [version, Fault::Chunk][self.below(2)];
+        self.header(Kind::Error(fault), 0, &[], None)
+    }
+
+    /// A MSG or NOMSG of that many reads and write chunks.
+    pub(super) fn shape(&mut self, kind: Kind, reads: usize, chunks: usize, reply: Option<usize>) -> Header {
+        let (mut left, mut counts) = (16, Vec::new());
+        for _ in 0..chunks {
+            counts.push([0, left, self.below(left + 1), self.below(left + 1)][self.below(4)]);
+            left -= counts[counts.len() - 1];
+        }
+        self.header(kind, reads, &counts, reply)
+    }
+
+    fn valid(&mut self) -> Header {
+        let kind = match self.below(5) {
+            0 => return self.error(),
+            1 => Kind::Nomsg,
+            _ => Kind::Msg,
+        };
+        let (reads, chunks, reply) = (self.below(17), self.below(5), self.below(18).checked_sub(1));
+        self.shape(kind, reads, chunks, reply)
+    }
+
+    /// The header's frame; MSG gets up to `most` bytes of payload.
+    pub(super) fn frame(&mut self, header: &Header, most: usize) -> Vec<u8> {
+        let mut frame = encode(header);
+        if header.kind == Kind::Msg {
+            let end = frame.len();
+            frame.resize(end + self.below(most + 1), 0);
+            self.fill(&mut frame[end..]);
+        }
+        frame
+    }
+
+    /// A valid header's frame with a few words or bytes changed, put in, taken out or cut off.
+    pub(super) fn edited(&mut self) -> Vec<u8> {
+        let header = self.valid();
+        let mut frame = self.frame(&header, 12);
+        for _ in 0..1 + self.below(3) {
+            let whole = frame.len() / 4;
+            let at = self.below(whole.max(1));
+            match self.below(7) {
+                0 | 1 if whole > 0 => put(&mut frame, at, self.word()),
+                2 if whole > 0 => frame[4 * at + self.below(4)] ^= 1 << self.below(8),
+                3 if whole > 0 => drop(frame.drain(4 * at..4 * at + 4)),
+                4 => drop(frame.splice(4 * at..4 * at, self.word().to_be_bytes())),
+                5 => frame.truncate(self.below(frame.len() + 1)),
+                _ => frame.push(self.draw() as u8),
+            }
+        }
+        frame
+    }
+
+    /// Noise in the reserved words of the list, drawn aside.
+    pub(super) fn reserved(&self, reads: &mut [ffi::ReadSegment]) -> Rng {
+        let mut own = self.aside();
+        reads.iter_mut().for_each(|entry| entry.reserved = own.word());
+        own
+    }
+
+    /// The flat header with noise in every unused place and reserved word, which the writer must ignore.
+    fn noisy(&mut self, header: &Header) -> ffi::Header {
+        let mut flat = flatten(header);
+        for place in &mut flat.reads[header.reads.len()..] {
+            *place = ReadSegment { position: self.word(), target: self.segment() }.into();
+        }
+        flat.reserved = self.reserved(&mut flat.reads).word();
+        let writes = &mut flat.writes[header.writes.concat().len()..];
+        for place in writes.iter_mut().chain(&mut flat.reply[header.reply.segments.len()..]) {
+            *place = self.segment().into();
+        }
+        for place in &mut flat.write_counts[header.writes.len()..] {
+            *place = self.word();
+        }
+        if flat.kind != ffi::ERROR_VERSION {
+            (flat.low, flat.high) = (self.word(), self.word());
+        }
+        flat
+    }
+}
+
+pub fn c2() -> Header {
+    Header { xid: 0x2a, credit: 0x20, ..Header::default() }
+}
+
+/// C2's frame with one word replaced.
+pub fn c2_with(word: usize, value: u32) -> Vec<u8> {
+    let mut list = [0x2a, 1, 0x20, 0, 0, 0, 0];
+    list[word] = value;
+    words(&list)
+}
+
+/// Positions 8 apart, so that one can fall, or be equal, without more ado.
+fn spread(mut header: Header) -> Header {
+    header.reads.iter_mut().enumerate().for_each(|(i, entry)| entry.position = 8 * (i as u32 + 2));
+    header
+}
+
+pub fn reads16() -> Header {
+    spread(Rng(1).header(Kind::Msg, 16, &[], None))
+}
+
+pub fn full() -> Header {
+    Rng(2).header(Kind::Msg, 16, &[4, 4, 4, 4], Some(16))
+}
+
+/// Some dozens of valid headers, the corner shapes among them.
+pub(super) fn bases(rng: &mut Rng) -> Vec<Header> {
+    let mut bases = vec![
+        c2(),
+        reads16(),
+        full(),
+        rng.header(Kind::Error(Fault::Version { low: 1, high: 2 }), 0, &[], None),
+        rng.header(Kind::Error(Fault::Chunk), 0, &[], None),
+        rng.header(Kind::Nomsg, 16, &[16, 0, 0, 0], Some(16)),
+        rng.header(Kind::Nomsg, 0, &[], None),
+        rng.header(Kind::Nomsg, 1, &[0, 0, 0, 0], Some(0)),
+        rng.header(Kind::Msg, 0, &[0, 16], None),
+        rng.header(Kind::Msg, 2, &[], Some(1)),
+    ];
+    bases.extend((0..30).map(|_| rng.valid()));
+    bases
+}
+
+fn need(flat: &ffi::Header) -> usize {
+    unflatten(flat).map_or(100, |header| encode(&header).len())
+}
+
+fn every_cut<C: Calls>(check: &mut Checker<C>, frame: &[u8]) -> Outcome {
+    (0..=frame.len()).try_for_each(|length| check.read_part(frame, length))
+}
+
+fn rooms<C: Calls>(check: &mut Checker<C>, flat: &ffi::Header) -> Outcome {
+    let need = need(flat);
+    [0, need - 1, need, need + 1, need + 1500].into_iter().try_for_each(|room| check.write(flat, room))
+}
+
+fn shapes<C: Calls>(check: &mut Checker<C>, rng: &mut Rng, cases: u64) -> Outcome {
+    let mut grid: Vec<Header> = (0..20).map(|_| rng.error()).collect();
+    for shape in 0..2 * 17 * 5 * 18 {
+        let kind = [Kind::Msg, Kind::Nomsg][shape % 2];
+        grid.push(rng.shape(kind, shape / 2 % 17, shape / 34 % 5, (shape / 170).checked_sub(1)));
+    }
+    check.family("read shapes");
+    for header in &grid {
+        for most in [0, 4, 40] {
+            check.read(&rng.frame(header, most))?;
+        }
+    }
+    for _ in 0..cases {
+        let header = rng.valid();
+        check.read(&rng.frame(&header, 300))?;
+    }
+    check.family("write shapes");
+    grid.iter().try_for_each(|header| rooms(check, &rng.noisy(header)))?;
+    check.family("write then read");
+    for i in 0..cases as usize {
+        let header = grid.get(i).cloned().unwrap_or_else(|| rng.valid());
+        let flat = rng.noisy(&header);
+        check.write_read(&flat, need(&flat) + rng.below(60))?;
+    }
+    check.family("read then write");
+    for i in 0..cases as usize {
+        let header = grid.get(i).cloned().unwrap_or_else(|| rng.valid());
+        check.read_write(&rng.frame(&header, 100))?;
+    }
+    Ok(())
+}
+
+fn damage<C: Calls>(check: &mut Checker<C>, rng: &mut Rng) -> Outcome {
+    let frames: Vec<Vec<u8>> = bases(rng).iter().map(|header| rng.frame(header, 9)).collect();
+    check.family("read every truncation");
+    frames.iter().try_for_each(|frame| every_cut(check, frame))?;
+    check.family("read one damaged word");
+    for (frame, word) in frames.iter().flat_map(|frame| (0..frame.len() / 4).map(move |word| (frame, word))) {
+        let old = u32::from_be_bytes(frame[4 * word..4 * word + 4].try_into().expect("4 bytes"));
+        let near = [-8, -4, -2, -1, 1, 2, 4, 8].map(|step| old.wrapping_add_signed(step));
+        let flips = (0..32).map(|bit| old ^ 1 << bit);
+        let mut frame = frame.clone();
+        for value in [0, 1, 2, 3, 4, 5, 16, 17, u32::MAX].into_iter().chain(near).chain(flips) {
+            put(&mut frame, word, value);
+            check.read(&frame)?;
+        }
+    }
+    Ok(())
+}
+
+fn fixed_words<C: Calls>(check: &mut Checker<C>, rng: &mut Rng) -> Outcome {
+    check.family("read version, procedure");
+    for version in [0, 1, 2, 3, 0x0100_0000, 0x8000_0001, u32::MAX] {
+        for procedure in (0..=8).chain([0x100, 0x104, 0x0100_0000, 0x0400_0000, 0x8000_0000, u32::MAX]) {
+            every_cut(check, &words(&[0x2a, version, 0x20, procedure, 1, 0, 0, 0]))?;
+            every_cut(check, &words(&[0x2a, version, 0x20, procedure, 0, 0, 0]))?;
+            every_cut(check, &words(&[0x2a, version, 0x20, procedure, 2]))?;
+        }
+    }
+    check.family("read error codes");
+    for code in edges() {
+        every_cut(check, &words(&[7, 1, 8, 4, code, 0, u32::MAX, 0]))?;
+    }
+    check.family("read bytes behind");
+    for header in bases(rng).iter().filter(|header| header.kind != Kind::Msg) {
+        for (behind, byte) in (0..=24).chain([1000]).flat_map(|n| [(n, 0), (n, 1), (n, 0xff)]) {
+            check.read(&[encode(header), vec![byte; behind]].concat())?;
+        }
+    }
+    Ok(())
+}
+
+fn limits<C: Calls>(check: &mut Checker<C>, rng: &mut Rng) -> Outcome {
+    check.family("read limits");
+    for kind in [Kind::Msg, Kind::Nomsg] {
+        for count in 15..=18 {
+            every_cut(check, &encode(&rng.header(kind, count, &[1], Some(1))))?;
+            every_cut(check, &encode(&rng.header(kind, 1, &[1], Some(count))))?;
+        }
+        let five = [4, 4, 4, 4, 0];
+        for counts in
+            [&[0; 4][..], &[0; 5], &[0; 6], &five[..4], &five, &[5, 5, 6, 1, 1], &[16], &[17], &[8, 9]]
+        {
+            every_cut(check, &encode(&rng.header(kind, 1, counts, Some(1))))?;
+        }
+        // A fault before the limit is met first.
+        for (entry, step) in (0..17).flat_map(|entry| [(entry, 9), (entry, 12)]) {
+            let mut header = spread(rng.header(kind, 17, &[], None));
+            header.reads[entry].position -= step;
+            check.read(&encode(&header))?;
+        }
+    }
+    // Every spread of 15, 16 and 17 segments over four chunks or fewer.
+    for digits in 0..18usize.pow(4) {
+        let counts = [digits % 18, digits / 18 % 18, digits / 324 % 18, digits / 5832];
+        if (15..=17).contains(&counts.iter().sum::<usize>()) {
+            let used = 4 - counts.iter().rev().take_while(|&&count| count == 0).count();
+            check.read(&encode(&rng.header(Kind::Msg, 0, &counts, None)))?;
+            check.read(&encode(&rng.header(Kind::Nomsg, 0, &counts[..used], None)))?;
+        }
+    }
+    for edge in edges() {
+        // As many segments as can be there, then the ends of the lists; cut behind the count too.
+        let segments = rng.segments(edge.min(17) as usize);
+        let reply = Reply { present: true, segments: segments.clone() };
+        let mut frame = encode(&Header { reply, ..c2() });
+        put(&mut frame, 7, edge);
+        check.read(&frame)?;
+        check.read_part(&frame, 32)?;
+        for before in (0..=16).map(|n| vec![n]).chain([vec![5, 6], vec![0, 16], vec![3, 0, 9]]) {
+            let mut header = rng.header(Kind::Msg, 0, &before, None);
+            header.writes.push(segments.clone());
+            let mut frame = encode(&header);
+            let count = 6 + 2 * before.len() + 4 * before.iter().sum::<usize>() - 1;
+            put(&mut frame, count, edge);
+            check.read(&frame)?;
+            check.read_part(&frame, 4 * count + 4)?;
+        }
+    }
+    // The message limit is no limit of reading.
+    for payload in [1024, 1_048_576, 1_048_577, 2_000_000] {
+        check.read(&[encode(&full()), vec![0xa5; payload]].concat())?;
+    }
+    Ok(())
+}
+
+/// What is wrong, or just not wrong, with an entry's position, given the one before it.
+const POSITIONS: [fn(u32, u32) -> u32; 8] = [
+    |old, _| old.wrapping_add(1),
+    |old, _| old.wrapping_add(2),
+    |old, _| old.wrapping_add(3),
+    |_, before| before.wrapping_sub(4),
+    |_, before| before.wrapping_sub(1),
+    |_, before| before.wrapping_sub(2),
+    |_, before| before,
+    |_, _| 0,
+];
+
+fn positions<C: Calls>(check: &mut Checker<C>, rng: &mut Rng) -> Outcome {
+    let mut headers = Vec::new();
+    for count in [1, 2, 3, 7, 16] {
+        let base = spread(rng.header(Kind::Msg, count, &[], None));
+        for (one, two) in (0..count).flat_map(|one| (one..count).map(move |two| (one, two))) {
+            for (first, second) in (0..64).map(|n| (n / 8, n % 8)) {
+                let mut header = base.clone();
+                for (entry, fault) in [(one, first), (two, second)] {
+                    let before = if entry == 0 { 0 } else { header.reads[entry - 1].position };
+                    header.reads[entry].position = POSITIONS[fault](header.reads[entry].position, before);
+                }
+                headers.push((header, one));
+            }
+        }
+    }
+    check.family("read positions");
+    for (header, entry) in &headers {
+        let frame = encode(header);
+        let start = 16 + 24 * entry;
+        for length in [start + 8, start + 23, start + 24, frame.len()] {
+            check.read_part(&frame, length)?;
+        }
+    }
+    check.family("write positions");
+    headers.iter().try_for_each(|(header, _)| rooms(check, &rng.noisy(header)))
+}
+
+fn random_frames<C: Calls>(check: &mut Checker<C>, rng: &mut Rng, cases: u64) -> Outcome {
+    check.family("read random bytes");
+    for _ in 0..cases {
+        let mut frame = vec![0; rng.below(400)];
+        rng.fill(&mut frame);
+        // Half of them get past the version word.
+        if frame.len() >= 16 && rng.below(2) == 0 {
+            put(&mut frame, 1, 1);
+            put(&mut frame, 3, rng.below(5) as u32);
+        }
+        check.read(&frame)?;
+    }
+    check.family("read random words");
+    for _ in 0..cases {
+        let mut list = vec![rng.word(), 1, rng.word(), [0, 0, 1, 1, 4][rng.below(5)]];
+        for _ in 0..rng.below(120) {
+            list.push([rng.below(2) as u32, rng.word() & !3][rng.below(2)]);
+        }
+        check.read(&words(&list))?;
+    }
+    check.family("read edited frames");
+    (0..cases).try_for_each(|_| check.read(&rng.edited()))
+}
+
+/// One fault, or a change that makes room for another, in a header to be written.
+const FAULTS: [fn(&mut ffi::Header); 27] = [
+    |h| h.read_count = 0,
+    |h| h.read_count = 16,
+    |h| h.read_count = 17,
+    |h| h.write_chunks = 0,
+    |h| h.write_chunks = 4,
+    |h| h.write_chunks = 5,
+    |h| h.write_counts = [16, 0, 0, 0],
+    |h| h.write_counts = [0, 0, 0, 17],
+    |h| h.write_counts = [u32::MAX, 1, 0, 0],
+    |h| h.write_counts = [0x4000_0000; 4],
+    |h| (h.reply_present, h.reply_count) = (0, 0),
+    |h| (h.reply_present, h.reply_count) = (1, 0),
+    |h| (h.reply_present, h.reply_count) = (1, 17),
+    |h| (h.reply_present, h.reply_count) = (0, 1),
+    |h| (h.reply_present, h.reply_count) = (0, u32::MAX),
+    |h| h.reply_present = 2,
+    |h| h.reads[0].position |= 1,
+    |h| h.reads[1].position |= 2,
+    |h| h.reads[15].position |= 3,
+    |h| h.reads[0].position = 0xffff_fffc,
+    |h| h.reads[1].position = 0,
+    |h| h.reads[2].position = 1,
+    |h| h.reads[15].position = 0,
+    |h| h.kind = 1,
+    |h| h.kind = 2,
+    |h| h.kind = 3,
+    |h| h.kind = 4,
+];
+
+fn faulty_headers<C: Calls>(check: &mut Checker<C>, rng: &mut Rng) -> Outcome {
+    let bases: Vec<ffi::Header> = bases(rng)[..16].iter().map(|header| rng.noisy(header)).collect();
+    check.family("write every room");
+    for flat in &bases {
+        (0..=need(flat) + 8).try_for_each(|room| check.write(flat, room))?;
+    }
+    check.family("write fault pairs");
+    for base in &bases {
+        for (one, two) in FAULTS.iter().flat_map(|one| FAULTS.iter().map(move |two| (one, two))) {
+            let mut flat = *base;
+            one(&mut flat);
+            two(&mut flat);
+            rooms(check, &flat)?;
+        }
+    }
+    check.family("write any counts");
+    for edge in edges() {
+        for (base, field) in bases.iter().flat_map(|base| (0..9).map(move |field| (base, field))) {
+            let mut flat = *base;
+            *match field {
+                0 => &mut flat.read_count,
+                1 => &mut flat.write_chunks,
+                2..=5 => &mut flat.write_counts[field - 2],
+                6 => &mut flat.reply_count,
+                7 => &mut flat.reply_present,
+                _ => &mut flat.kind,
+            } = edge;
+            check.write(&flat, 1100)?;
+        }
+        for other in edges() {
+            let mut flat = bases[0];
+            flat.write_chunks = 2 + rng.below(3) as u32;
+            flat.write_counts = [0; 4];
+            flat.write_counts[rng.below(2)] = edge;
+            flat.write_counts[flat.write_chunks as usize - 1] = other;
+            check.write(&flat, 1100)?;
+        }
+    }
+    Ok(())
+}
+
+fn random_headers<C: Calls>(check: &mut Checker<C>, rng: &mut Rng, cases: u64) -> Outcome {
+    check.family("write random headers");
+    for _ in 0..cases {
+        let header = rng.valid();
+        let mut flat = rng.noisy(&header);
+        for _ in 0..rng.below(4) {
+            let (at, value) = (rng.below(16), rng.word());
+            match rng.below(9) {
+                0 => flat.read_count = rng.below(18) as u32,
+                1 => flat.write_chunks = rng.below(6) as u32,
+                2 => flat.write_counts[at % 4] = value,
+                3 => flat.write_counts[at % 4] = rng.below(9) as u32,
+                4 => (flat.reply_present, flat.reply_count) = (rng.below(2) as u32, rng.below(18) as u32),
+                5 => flat.kind = rng.below(6) as u32,
+                6 => flat.reads[at].position = value,
+                7 => flat.reads[at].position = value & !3,
+                _ => FAULTS[rng.below(FAULTS.len())](&mut flat),
+            }
+        }
+        let need = need(&flat);
+        let room = [need, need - 1, need + 1, need + 700, rng.below(need), need + rng.below(9)][rng.below(6)];
+        check.write(&flat, room)?;
+    }
+    Ok(())
+}
+
+pub fn run<C: Calls>(check: &mut Checker<C>, rng: &mut Rng, cases: u64) -> Outcome {
+    shapes(check, rng, cases)?;
+    damage(check, rng)?;
+    fixed_words(check, rng)?;
+    limits(check, rng)?;
+    positions(check, rng)?;
+    random_frames(check, rng, cases)?;
+    faulty_headers(check, rng)?;
+    random_headers(check, rng, cases)
+}

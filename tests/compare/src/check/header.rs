@@ -1,0 +1,105 @@
+//! The checks of reading and writing headers.
+
+use super::lent::{Buffer, Place};
+use super::seen::Call;
+use super::{hex, Checker, Outcome};
+use crate::calls::Calls;
+use crate::convert::{flatten, unflatten};
+use crate::reference::header;
+use eoswynnor::ffi::{Header, Part};
+
+fn judge_read(frame: &[u8], number: u32, place: &Place<Header>, part: Part) -> Outcome {
+    let right = header::read(frame);
+    let payload = right.as_ref().map_or(&[][..], |(_, payload)| payload);
+    place.judge(number, right.as_ref().map(|(header, _)| flatten(header)).map_err(|number| *number))?;
+    let got = match part.offset.checked_add(part.length) {
+        _ if part == Part::default() => &[][..],
+        _ if part.length == 0 => return Err(format!("{part:?}, want 0, 0 where it is empty")),
+        Some(end) if end <= frame.len() => &frame[part.offset..end],
+        _ => return Err(format!("payload {part:?} lies outside the frame")),
+    };
+    if got != payload {
+        return Err(format!("payload: got {}, want {}", hex(got), hex(payload)));
+    }
+    Ok(())
+}
+
+impl<C: Calls> Checker<C> {
+    pub fn read(&mut self, frame: &[u8]) -> Outcome {
+        self.read_part(frame, frame.len())
+    }
+
+    /// Lends the first `length` bytes, with the others lying behind: reading too far shows.
+    pub fn read_part(&mut self, bytes: &[u8], length: usize) -> Outcome {
+        self.count();
+        self.input.hold(bytes, length, &mut self.noise);
+        let mut header = Place::noise(&mut self.noise);
+        let frame = &bytes[..length];
+        let mut run = || {
+            let number = self.calls.read_header(&mut self.input, &mut header)?;
+            self.seen.number(Call::Read, number);
+            let part = self.calls.payload(&mut self.input)?;
+            judge_read(frame, number, &header, part)
+        };
+        run().map_err(|what| format!("{what}\nframe ({length} bytes): {}", hex(frame)))
+    }
+
+    pub fn write(&mut self, header: &Header, room: usize) -> Outcome {
+        self.count();
+        self.memory.noise(room, &mut self.noise);
+        let mut length = Place::noise(&mut self.noise);
+        let mut place = Place::holding(*header, &mut self.noise.aside());
+        self.calls
+            .write_header(&mut place, self.memory.lent(), &mut length)
+            .and_then(|number| {
+                self.seen.number(Call::Write, number);
+                self.judge_memory(number, &length, |out| {
+                    unflatten(header).and_then(|header| header::write(&header, out))
+                })
+            })
+            .map_err(|what| format!("{what}\nheader: {header:?}\n{}", self.buffer_text()))
+    }
+
+    /// Written, then read back: the header with its unused places zero, and no payload.
+    pub fn write_read(&mut self, header: &Header, room: usize) -> Outcome {
+        self.count();
+        let want = flatten(&unflatten(header).expect("a valid header"));
+        let mut out = self.noise.noise(room);
+        let (mut length, mut back) = (Place::noise(&mut self.noise), Place::noise(&mut self.noise));
+        let aside = &mut self.noise.aside();
+        let mut run = || {
+            let mut place = Place::holding(*header, aside);
+            let written = self.calls.write_header(&mut place, &mut out, &mut length)?;
+            let mut frame = Buffer::holding(out.get(..length.now.value).unwrap_or_default(), aside);
+            let read = self.calls.read_header(&mut frame, &mut back)?;
+            if (written, read) != (0, 0) {
+                return Err(format!("numbers: got {written} then {read}, want 0 twice"));
+            }
+            if self.calls.payload(&mut frame)?.length != 0 {
+                return Err("payload of a written header is not empty".to_string());
+            }
+            back.holds(want)
+        };
+        run().map_err(|what| format!("{what}\nheader: {header:?}\nwritten: {}", hex(&out)))
+    }
+
+    /// Read, then written again: the frame's bytes before its payload.
+    pub fn read_write(&mut self, frame: &[u8]) -> Outcome {
+        self.count();
+        let (mut header, mut length) = (Place::noise(&mut self.noise), Place::noise(&mut self.noise));
+        let mut lent = Buffer::holding(frame, &mut self.noise.aside());
+        let mut run = || {
+            let read = self.calls.read_header(&mut lent, &mut header)?;
+            let before = frame.len() - self.calls.payload(&mut lent)?.length.min(frame.len());
+            let mut out = self.noise.noise(before);
+            let written = self.calls.write_header(&mut header, &mut out, &mut length)?;
+            let length = length.now.value;
+            if (read, written, length) == (0, 0, before) && out == frame[..before] {
+                return Ok(());
+            }
+            let numbers = format!("read {read}, written {written}, length {length}");
+            Err(format!("{numbers}, want 0, 0, {before}\nwritten: {}", hex(&out)))
+        };
+        run().map_err(|what| format!("{what}\nframe: {}", hex(frame)))
+    }
+}

@@ -1,0 +1,113 @@
+//! What an implementation answered so far, and what the families must draw from it.
+
+use std::collections::BTreeMap;
+
+/// Where answer numbers are counted; Replied is the reader's number that a reply was made for.
+#[derive(Clone, Copy)]
+pub enum Call {
+    Read,
+    Write,
+    SetupRead,
+    SetupWritten,
+    Agreement,
+    Grant,
+    ErrorReply,
+    Replied,
+    Start,
+    Piece,
+    Message,
+}
+
+/// Each call's name and the numbers the families must draw from it.
+const CALLS: [(&str, &[u32]); 11] = [
+    ("read", &[0, 1, 2, 3, 4, 5, 6, 7, 8, 9, 10, 11]),
+    ("write", &[0, 7, 8, 9, 12, 16, 20]),
+    ("setup read", &[0]),
+    ("setup written", &[0, 16, 20]),
+    ("agreement", &[0, 20]),
+    ("grant", &[0, 20]),
+    ("error reply", &[0, 16, 20]),
+    ("replied", &[0, 1, 2, 3, 4, 5, 6, 7, 8, 9, 10, 11]),
+    ("start", &[0, 1, 2, 3, 4, 5, 6, 7, 8, 9, 10, 11, 12, 13, 14, 15, 16]),
+    ("piece", &[0, 17, 18]),
+    ("message", &[0, 17, 19]),
+];
+
+/// Answers that number 0 does not tell apart; each must be seen too.
+#[derive(Clone, Copy)]
+pub enum Form {
+    Setup,
+    NoSetup,
+    NoReply,
+    VersionReply,
+    ChunkReply,
+    MsgFinished,
+    NomsgFinished,
+    PaddedFinished,
+    SixteenChunksFinished,
+    LargestFinished,
+    EmptyPieceAtEnd,
+    RefusalBetween,
+    CutsCompared,
+}
+
+const FORMS: [&str; 13] = [
+    "setup data",
+    "no setup data",
+    "no reply",
+    "version reply",
+    "chunk reply",
+    "MSG finished",
+    "NOMSG finished",
+    "message with padding",
+    "message of 16 chunks",
+    "largest message",
+    "empty piece at the end",
+    "refusal before the end",
+    "two cuts compared",
+];
+
+/// What the implementation answered so far.
+#[derive(Default)]
+pub struct Seen {
+    numbers: [BTreeMap<u32, u64>; CALLS.len()],
+    forms: [u64; FORMS.len()],
+}
+
+impl Seen {
+    pub fn number(&mut self, call: Call, number: u32) {
+        *self.numbers[call as usize].entry(number).or_default() += 1;
+    }
+
+    pub fn form(&mut self, form: Form) {
+        self.forms[form as usize] += 1;
+    }
+
+    pub fn reply(&mut self, number: u32, length: usize) {
+        self.number(Call::ErrorReply, number);
+        match (number, length) {
+            (0, 0) => self.form(Form::NoReply),
+            (0, 20) => self.form(Form::ChunkReply),
+            (0, 28) => self.form(Form::VersionReply),
+            _ => {}
+        }
+    }
+
+    /// A line for each call, then one for each form.
+    pub fn lines(&self) -> Vec<String> {
+        let calls = CALLS.iter().zip(&self.numbers).map(|((name, _), numbers)| {
+            let list: Vec<String> = numbers.iter().map(|(number, seen)| format!("{number}:{seen}")).collect();
+            format!("{name} numbers: {}", list.join(" "))
+        });
+        calls.chain(FORMS.iter().zip(self.forms).map(|(name, seen)| format!("{name}: {seen}"))).collect()
+    }
+
+    pub fn missing(&self) -> Vec<String> {
+        let numbers = CALLS.iter().zip(&self.numbers).flat_map(|((name, must), numbers)| {
+            let unseen = must.iter().filter(|number| !numbers.contains_key(number));
+            unseen.map(move |number| format!("{name} never gave {number}"))
+        });
+        let forms = FORMS.iter().zip(self.forms).filter(|(_, seen)| *seen == 0);
+        numbers.chain(forms.map(|(name, _)| format!("{name} never seen"))).collect()
+    }
+}

@@ -1,0 +1,16 @@
+//! The reference: the calls once more, straight from document 01; clear rather than fast, and
+//! independent of the library.
+
+pub mod assembly;
+pub mod header;
+pub mod reply;
+pub mod setup;
+
+/// Puts bytes at the front of a buffer: their length, or 16 if they do not fit.
+fn put_front(bytes: &[u8], out: &mut [u8]) -> Result<usize, u32> {
+    if bytes.len() > out.len() {
+        return Err(16);
+    }
+    out[..bytes.len()].copy_from_slice(bytes);
+    Ok(bytes.len())
+}

@@ -1,0 +1,210 @@
+//! The reassembly of a call.
+
+use super::header::{self, Kind, ReadSegment, MAX_READS};
+
+pub const MAX_MESSAGE: u128 = 1_048_576;
+
+#[derive(Clone, Debug, Default, PartialEq, Eq)]
+pub struct State {
+    pub kind: Kind,
+    pub reads: Vec<ReadSegment>,
+    pub base: usize,
+    pub buffer: usize,
+    pub taken: usize,
+}
+
+/// Read segments with the same position; lengths are those of all its segments together.
+struct Chunk {
+    position: u128,
+    length: u128,
+}
+
+impl Chunk {
+    fn rounded(&self) -> u128 {
+        self.length.div_ceil(4) * 4
+    }
+}
+
+fn chunks(reads: &[ReadSegment]) -> Vec<Chunk> {
+    let mut list: Vec<Chunk> = Vec::new();
+    for entry in reads {
+        let (position, length) = (u128::from(entry.position), u128::from(entry.target.length));
+        match list.last_mut() {
+            Some(chunk) if chunk.position == position => chunk.length += length,
+            _ => list.push(Chunk { position, length }),
+        }
+    }
+    list
+}
+
+/// The length of the position-zero chunk, 0 if there is none.
+fn zero_length(reads: &[ReadSegment]) -> u128 {
+    reads.iter().filter(|entry| entry.position == 0).map(|entry| u128::from(entry.target.length)).sum()
+}
+
+/// Every place of a message, by what stands there, each list in order.
+#[derive(Default)]
+struct Places {
+    base: Vec<usize>,
+    chunks: Vec<usize>,
+    padding: Vec<usize>,
+}
+
+impl Places {
+    fn length(&self) -> usize {
+        self.base.len() + self.chunks.len() + self.padding.len()
+    }
+
+    /// List order: the position-zero chunk comes first.
+    fn pulled(&self, kind: Kind) -> Vec<usize> {
+        let base = if kind == Kind::Nomsg { &self.base[..] } else { &[] };
+        [base, &self.chunks].concat()
+    }
+}
+
+/// 12 to 16, then the places. The base's length is handed in: a state has its own.
+fn places(kind: Kind, reads: &[ReadSegment], base: u128, room: usize) -> Result<Places, u32> {
+    let at_zero = reads.iter().any(|entry| entry.position == 0);
+    match kind {
+        Kind::Msg if !at_zero => {}
+        Kind::Nomsg if at_zero => {}
+        _ => return Err(12),
+    }
+    if base % 4 != 0 {
+        return Err(13);
+    }
+    let chunks: Vec<Chunk> = chunks(reads).into_iter().filter(|chunk| chunk.position != 0).collect();
+    let (mut end, mut earlier) = (0, 0);
+    for chunk in &chunks {
+        // Behind the former's end the difference cannot fall below 0.
+        if chunk.position < end || chunk.position - earlier > base {
+            return Err(14);
+        }
+        end = chunk.position + chunk.rounded();
+        earlier += chunk.rounded();
+    }
+    let length = base + earlier;
+    if length > MAX_MESSAGE {
+        return Err(15);
+    }
+    if length > room as u128 {
+        return Err(16);
+    }
+    let mut places = Places::default();
+    let mut next = 0;
+    for chunk in &chunks {
+        let [start, end, behind] = [0, chunk.length, chunk.rounded()].map(|n| (chunk.position + n) as usize);
+        places.base.extend(next..start);
+        places.chunks.extend(start..end);
+        places.padding.extend(end..behind);
+        next = behind;
+    }
+    places.base.extend(next..length as usize);
+    Ok(places)
+}
+
+/// The state, or the number of the refusal, which leaves `out` alone.
+pub fn start(frame: &[u8], out: &mut [u8]) -> Result<State, u32> {
+    let (header, payload) = header::read(frame)?;
+    let base = match header.kind {
+        Kind::Nomsg => zero_length(&header.reads),
+        _ => payload.len() as u128,
+    };
+    let places = places(header.kind, &header.reads, base, out.len())?;
+    if header.kind == Kind::Msg {
+        places.base.iter().zip(payload).for_each(|(&place, &byte)| out[place] = byte);
+    }
+    places.padding.iter().for_each(|&place| out[place] = 0);
+    let (base, buffer) = (places.base.len(), out.len());
+    Ok(State { kind: header.kind, reads: header.reads, base, buffer, taken: 0 })
+}
+
+/// The places of a state that can arise, over the buffer length of its start; else 17.
+fn settled(state: &State, room: usize) -> Result<Places, u32> {
+    let State { kind, ref reads, base, buffer, taken } = *state;
+    let listed = reads.len() <= MAX_READS
+        && reads.iter().all(|entry| entry.position % 4 == 0)
+        && reads.is_sorted_by_key(|entry| entry.position);
+    let own_base = kind != Kind::Nomsg || base as u128 == zero_length(reads);
+    if !listed || !own_base || buffer != room {
+        return Err(17);
+    }
+    let places = places(kind, reads, base as u128, buffer).map_err(|_| 17u32)?;
+    if taken > places.pulled(kind).len() {
+        return Err(17);
+    }
+    Ok(places)
+}
+
+/// Takes a piece, or gives the number of the refusal, which leaves state and `out` alone.
+pub fn take(state: &mut State, piece: &[u8], out: &mut [u8]) -> Result<(), u32> {
+    let pulled = settled(state, out.len())?.pulled(state.kind);
+    let left = &pulled[state.taken..];
+    if piece.len() > left.len() {
+        return Err(18);
+    }
+    left.iter().zip(piece).for_each(|(&place, &byte)| out[place] = byte);
+    state.taken += piece.len();
+    Ok(())
+}
+
+/// The length of the message, which is the first part of the buffer, or the number of the refusal.
+pub fn ask(state: &State, room: usize) -> Result<usize, u32> {
+    let places = settled(state, room)?;
+    if state.taken < places.pulled(state.kind).len() {
+        return Err(19);
+    }
+    Ok(places.length())
+}
+
+#[cfg(test)]
+mod tests {
+    use super::*;
+    use crate::cases::assembly::{c6, c7, c8, c9, Frame, C6, INLINE, PULLED};
+
+    #[test]
+    fn worked_examples() {
+        let whole = [&INLINE[..], &PULLED].concat();
+        for (frame, pulled) in [(c6(), &PULLED[..]), (c9(), &PULLED), (c8(), &whole)] {
+            let mut out = [0x55; 23];
+            let mut state = start(&frame.bytes(), &mut out).unwrap();
+            assert_eq!(out[13..16], [0; 3]);
+            for &byte in pulled {
+                assert_eq!(ask(&state, 23), Err(19));
+                assert_eq!(take(&mut state, &[byte], &mut out), Ok(()));
+            }
+            assert_eq!(take(&mut state, &[1], &mut out), Err(18));
+            assert_eq!((ask(&state, 23), ask(&state, 22)), (Ok(20), Err(17)));
+            assert_eq!((&out[..20], &out[20..]), (&C6[..], &[0x55; 3][..]));
+            assert_eq!(state.taken, pulled.len());
+        }
+        let numbers = [12, 16, 20, 24].map(|position| start(&c7(position).bytes(), &mut [0; 24]).err());
+        assert_eq!(numbers, [Some(14), None, None, Some(14)]);
+        let c2 = Frame::new(Kind::Msg, &[], &[]).bytes();
+        let state = start(&c2, &mut []).unwrap();
+        assert_eq!((ask(&state, 0), state), (Ok(0), State::default()));
+    }
+
+    /// Each frame has all later faults too.
+    #[test]
+    fn refusals_of_a_start_in_their_order() {
+        let frames = [
+            (12, Frame::new(Kind::Msg, &[(0, 1), (64, u32::MAX)], &[1; 5])),
+            (13, Frame::new(Kind::Msg, &[(64, u32::MAX)], &[1; 5])),
+            (14, Frame::new(Kind::Msg, &[(64, u32::MAX)], &[1; 8])),
+            (15, Frame::new(Kind::Msg, &[(8, u32::MAX)], &[1; 8])),
+            (16, Frame::new(Kind::Msg, &[(8, 5)], &[1; 8])),
+            (12, Frame::new(Kind::Nomsg, &[(4, 1)], &[])),
+            (13, Frame::new(Kind::Nomsg, &[(0, 1), (4, 1)], &[])),
+            (14, Frame::new(Kind::Nomsg, &[(0, 0), (4, 1)], &[])),
+            // Sixteen of the longest need 36 bits.
+            (15, Frame::new(Kind::Nomsg, &[(0, u32::MAX); 16], &[])),
+            (14, Frame::new(Kind::Msg, &[(4, u32::MAX), (4, 1), (8, 4)], &[1; 8])),
+        ];
+        for (number, frame) in frames {
+            let mut out = [0x55; 15];
+            assert_eq!(start(&frame.bytes(), &mut out), Err(number));
+            assert_eq!(out, [0x55; 15]);
+        }
+    }
+}
