@@ -133,7 +133,7 @@ reply-reads-back = reply-read.reply-read-answer
 pub reply-never-answered : (frame : List ℕ) (number limit later : ℕ) → replyKindFor (errorReply frame number limit) later ≡ reply.None
 reply-never-answered = reply-read.reply-unanswered
 
--- "C1 to C13 are proved from the definitions as one list with one claim over it."; each other number of the table is given once; and the order of the checks, the ends of the limits, the places of bytes and words.
+-- "C1 to C13 are proved from the definitions as one list with one claim over it."; each other number of the table is given once; and orders in which checks are made, ends of limits, places of bytes and words, as `edges` lists them.
 pub examples-hold : All Holds examples
 examples-hold = worked.worked
 

@@ -36,7 +36,7 @@ pub numbered : All Holds numbers
 unfolding All words joined wordBytes readFrame byProcedure threeParts errorBody readList readEntry segments counted each writeList replyChunk markerOf wordOf wordAt segmentAt readSegmentAt entryWords startNumber anyAtZero zeroLength joinChunk otherChunks roundedUp roundedTotal stands placeNumber grantAnswer pieceNumber canArise readsIn readSegmentIn segmentIn partsIn stateKind positionsNumber
 numbered = ((refl, refl), ((refl, refl), ((refl, refl), ((refl, refl), ((refl, refl), ((refl, refl), ((refl, refl), (refl, (refl, (refl, (refl, (refl, tt))))))))))))
 
--- The order of the checks, the ends of the limits, the places of bytes and words.
+-- Orders in which checks are made, ends of limits, places of bytes and words.
 pub edged : All Holds edges
 unfolding All words joined wordBytes readFrame byProcedure threeParts readList readEntry segments counted each writeList replyChunk markerOf wordOf wordAt segmentAt readSegmentAt writeAnswer writeBuffer writeNumber withinLimits total positionsNumber headerOf contentOf runs headerBytes fixedBytes readListBytes writeListBytes replyBytes chunkBytes countedBytes entryBytes segmentBytes readSegmentBytes isSetup readSetup granted grantAnswer replyKindOf replyKindFor errorReply errorReplyNumber errorReplyAnswer errorReplyBuffer entryWords segmentIn segmentWords readSegmentIn readSegmentWords readsIn readsWords stateKind partsIn stateWords startWords withTaken pieceWords wire.stored startNumber startBuffer startWrites canArise pieceNumber pieceBuffer messageNumber messagePart runCalls anyAtZero zeroLength joinChunk otherChunks roundedUp roundedTotal stands placeNumber places gaps paddings paddingPlaces basePlaces pulledPlaces from scatter errorBody errorBytes headerWords segmentsWords setupInRule inRule agreement agreementWords writeSetupAnswer writeSetupNumber setupBytes
 edged = ((refl, refl), ((refl, refl), ((refl, refl), ((refl, refl), ((refl, refl), ((refl, refl), ((refl, refl), ((refl, refl), ((refl, refl), ((refl, refl), ((refl, refl), (refl, (refl, (refl, (refl, (refl, (refl, ((refl, (refl, (refl, (refl, (refl, (refl, (refl, (refl, (refl, (refl, (refl, (refl, (refl, (refl, (refl, (refl, (refl, (refl, (refl, (refl, (refl, (refl, (refl, (refl, tt)))))))))))))))))))))))), (refl, (refl, (refl, (refl, ((refl, refl), ((refl, refl), (refl, (refl, ((refl, refl), (refl, (refl, (refl, (refl, (refl, (refl, (refl, (refl, (refl, ((refl, (refl, (refl, (refl, (refl, (refl, (refl, (refl, (refl, (refl, tt)))))))))), ((refl, (refl, (refl, (refl, (refl, tt))))), (refl, (refl, tt))))))))))))))))))))))))))))))))))))))))

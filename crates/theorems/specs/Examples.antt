@@ -238,7 +238,7 @@ offsets = headerOf (record {
   reply = some (record { handle = 1; length = 2; offset = 3 * 4294967296 + 4 } ∷ []);
 })
 
--- What the two lists above leave open, each once: the order of the checks, the ends of the limits, the places of bytes and words.
+-- Of what the two lists above leave open: orders in which checks are made, ends of limits, places of bytes and words.
 abbrev pub edges : List Example
 edges =
     frame-reads (words (0x2a ∷ 1 ∷ 0x20 ∷ 5 ∷ [])) 3 []
