@@ -1,7 +1,7 @@
 -- Rows of checks, and what a refused call leaves.
 -- Assumes nothing.
 use mathlib.Core.Path.{_≡_, refl}
-use mathlib.Core.Bool.{Bool, true, false, _&&_}
+use mathlib.Core.Bool.{Bool, true, false, _&&_, _||_}
 use Prim.Native.Nat.{ℕ, _<_}
 use native.Mathlib.Omega.{arith}
 use borrow.Author.Tests.{ne-eqb}
@@ -11,6 +11,11 @@ use Rattle.answers.specs.Answers.{check, unlessRefused}
 pub both-hold : (a b : Bool) → (a && b) ≡ true → (a ≡ true) × (b ≡ true)
 both-hold true b h = (refl, h)
 both-hold false b h = absurd (let z : _≡_ {A = ℕ} 0 1 = cc in omega arith)
+
+-- Neither of two.
+pub neither : (a b : Bool) → (a || b) ≡ false → (a ≡ false) × (b ≡ false)
+neither false b h = (refl, h)
+neither true b h = absurd (let z : _≡_ {A = ℕ} 0 1 = cc in omega arith)
 
 -- A check that gives 0 was passed.
 pub check-passed : (holds : Bool) (n next : ℕ) → 0 < n → check holds n next ≡ 0 → (holds ≡ true) × (next ≡ 0)

@@ -124,6 +124,14 @@ export-written-read w out v h f long is ok =
     let read = written-read h out r number in
     simp (is, read, headerOf-contentOf h (length out) r number) (refl, refl, refl)
 
+-- The words of such a header hold it.
+pub zeroed-in : (w out : List ℕ) (h : Header) → AllWords w → length w ≡ 238 → headerIn w ≡ some h → writeWordsAnswer (headerIn w) (length out) .number ≡ 0 →
+    headerIn (headerWords (zeroed h)) ≡ some (zeroed h)
+unfolding writeAnswer
+zeroed-in w out h f long is ok =
+    let r = words-representable w f long h is in
+    header-back (zeroed h) (full (zeroed h) (zeroed-representable h (length out) r (rw is at ok)))
+
 -- "Unused places .. the writer ignores them": from the words of the header with them zeroed the same is written.
 pub export-zeroed-written : (w out : List ℕ) (h : Header) → AllWords w → length w ≡ 238 → headerIn w ≡ some h → writeWordsAnswer (headerIn w) (length out) .number ≡ 0 →
     (writeWordsAnswer (headerIn (headerWords (zeroed h))) (length out) ≡ writeWordsAnswer (headerIn w) (length out))
@@ -132,8 +140,7 @@ unfolding writeAnswer
 export-zeroed-written w out h f long is ok =
     let r = words-representable w f long h is in
     let number : writeNumber h (length out) ≡ 0 = (rw is at ok) in
-    let back = header-back (zeroed h) (full (zeroed h) (zeroed-representable h (length out) r number)) in
-    rw (is, back) (zeroed-written h out r number)
+    rw (is, zeroed-in w out h f long is ok) (zeroed-written h out r number)
 
 -- "everything behind this is the inline payload, handed back as a part of the lent frame": where `eos_payload` says that it lies.
 pub payload-there : (s : List ℕ) → AllBytes s → take (partOf s (payloadOf (readFrame s)) .length) (drop (partOf s (payloadOf (readFrame s)) .offset) s) ≡ payloadOf (readFrame s)

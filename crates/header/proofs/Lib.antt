@@ -4,3 +4,4 @@ pub mod Words
 pub mod Allowed
 pub mod Contents
 pub mod Representable
+pub mod Zeroed

@@ -9,9 +9,11 @@ use native.Mathlib.Omega.{arith}
 use lib.ListN.{length, take, drop, getD, length-drop}
 use lib.Seq.{take-suc, length-take-le, getD-drop, getD-take}
 use lib.Dec.{eqb, leb}
-use borrow.Author.Tests.{lt-leb, ne-eqb}
-use Rattle.header.specs.Words.{countsIn}
-use Rattle.header.specs.Limits.{total}
+use borrow.Author.Tests.{leb-true, lt-leb, ne-eqb}
+use Rattle.answers.proofs.Checks.{both-hold}
+use Rattle.header.specs.Words.{readCountAt, writeChunksAt, replyCountAt, countsIn}
+use Rattle.header.specs.Internal.Counts.{limitsKept}
+use Rattle.header.specs.Limits.{total, withinLimits}
 
 -- The total of counts and one more.
 pub total-snoc : (ns : List ℕ) (n : ℕ) → total (ns ++ (n ∷ [])) ≡ total ns + n
@@ -60,3 +62,33 @@ count-here w k h = rw (getD-take, getD-drop)
 pub few-in : (present : Bool) (n : ℕ) → n ≤ cond present 16 0 → n ≤ 16
 few-in true n h = h
 few-in false n h = omega arith
+
+-- Counts that are within their limits.
+pub record Few (r n : ℕ) (counts : List ℕ) (present : Bool) (m : ℕ) : Type 0 where
+  pub reads : r ≤ 16
+  pub chunks : n ≤ 4
+  pub segments : total (take n counts) ≤ 16
+  pub there : m ≤ cond present 16 0
+  pub replies : m ≤ 16
+
+pub few-counts : (r n : ℕ) (counts : List ℕ) (present : Bool) (m : ℕ) → withinLimits r n counts present m ≡ true → Few r n counts present m
+unfolding withinLimits
+few-counts r n counts present m h =
+    let first = both-hold (leb r 16) _ h in
+    let second = both-hold (leb n 4) _ (first .1) in
+    let third = both-hold (leb (total (take n counts)) 16) _ (second .1) in
+    let there = leb-true m (cond present 16 0) (third .1) in
+    record {
+      reads = leb-true r 16 (first .0);
+      chunks = leb-true n 4 (second .0);
+      segments = leb-true (total (take n counts)) 16 (third .0);
+      there = there;
+      replies = few-in present m there;
+    }
+
+-- Those in words.
+abbrev pub FewIn : List ℕ → Bool → Type 0
+FewIn w present = Few (getD w readCountAt 0) (getD w writeChunksAt 0) (countsIn w) present (getD w replyCountAt 0)
+
+pub few-in-words : (w : List ℕ) (present : Bool) → limitsKept w present ≡ true → FewIn w present
+few-in-words w present h = few-counts _ _ _ present _ h

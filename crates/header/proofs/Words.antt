@@ -4,7 +4,7 @@ use mathlib.Core.Path.{_≡_, refl, sym, ap, _∙_}
 use mathlib.Core.Bool.{Bool, true, false}
 use mathlib.Core.List.{List, [], _∷_, _++_, append-assoc}
 use mathlib.Core.Option.{none, some}
-use Prim.Native.Nat.{ℕ, _+_, _≤_}
+use Prim.Native.Nat.{ℕ, _+_, _≤_, _<_}
 use native.Mathlib.Nat.{zero-add}
 use native.Mathlib.Omega.{arith}
 use lib.ListN.{length, take, drop, getD, replicate, length-append, length-drop, length-map}
@@ -13,6 +13,7 @@ use lib.Dec.{leb, eqb}
 use mir.Val.{Val}
 use denote.Shadow.{shadow}
 use borrow.Author.Needs.{needs}
+use borrow.Author.Tests.{le-leb, lt-leb}
 use Rattle.wire.specs.Wire.{stored}
 use Rattle.wire.proofs.Fields.{then, stored-front, flag-fits, flag-back}
 use Rattle.wire.proofs.Segment as segment
@@ -23,7 +24,7 @@ use Rattle.chunk_lists.proofs.ReplyChunk as reply-chunk
 use Rattle.wire.specs.Words.{flagNumber}
 use Rattle.chunk_lists.specs.Words.{readsIn, readsWords, segmentsIn, segmentsWords}
 use Rattle.chunk_lists.proofs.Words.{length-reads-words, length-segments-words, reads-back, segments-back}
-use Rattle.header.specs.Words.{kindNumber, lowOf, highOf, kindIn, headerWords, headerAs, headerFound, headerIn}
+use Rattle.header.specs.Words.{replyPresentAt, kindAt, lowAt, highAt, kindNumber, lowOf, highOf, kindIn, headerWords, headerAs, headerFound, headerIn}
 use Rattle.header.specs.declared.Kind.{Kind}
 use Rattle.header.specs.declared.Kind.the-variants.{Msg, Nomsg, Error}
 use Rattle.header.specs.declared.ErrorKind.the-variants.{Version, Chunk}
@@ -197,3 +198,16 @@ counts-in w long =
     four (a ∷ b ∷ []) h = absurd (omega arith)
     four (a ∷ b ∷ c ∷ []) h = absurd (omega arith)
     four (a ∷ b ∷ c ∷ d ∷ l) h = refl
+
+-- The header that words hold: none where its kind or its flag is unknown.
+pub header-known : (w : List ℕ) (kind : Kind) → kindIn (getD w kindAt 0) (getD w lowAt 0) (getD w highAt 0) ≡ Is kind → getD w replyPresentAt 0 ≤ 1 → headerIn w ≡ some (headerAs w kind (eqb (getD w replyPresentAt 0) 1))
+unfolding headerIn
+header-known w kind e h = rw (e, le-leb _ _ h)
+
+pub kind-unknown : (w : List ℕ) → kindIn (getD w kindAt 0) (getD w lowAt 0) (getD w highAt 0) ≡ No → headerIn w ≡ none
+unfolding headerIn
+kind-unknown w e = rw e
+
+pub flag-unknown : (w : List ℕ) (kind : Kind) → kindIn (getD w kindAt 0) (getD w lowAt 0) (getD w highAt 0) ≡ Is kind → 1 < getD w replyPresentAt 0 → headerIn w ≡ none
+unfolding headerIn
+flag-unknown w kind e h = rw (e, lt-leb _ _ h)

@@ -3,3 +3,4 @@ pub mod Limits
 pub mod Bytes
 pub mod Words
 pub mod Fits
+pub mod Internal

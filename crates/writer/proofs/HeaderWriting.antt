@@ -4,27 +4,27 @@ use mathlib.Core.Path.{_≡_, refl, sym, ap, _∙_}
 use mathlib.Core.Bool.{Bool, true, false, cond}
 use mathlib.Core.List.{List, _++_}
 use mathlib.Core.Option.{Option, none, some}
-use Prim.Native.Nat.{ℕ, _+_, _*_, _≤_, _<_}
+use Prim.Native.Nat.{ℕ, _+_, _*_, _≤_}
 use native.Mathlib.Omega.{arith}
 use lib.ListN.{length, take, getD, length-append}
 use lib.Dec.{eqb, leb}
-use borrow.Author.Tests.{leb-true, le-leb, lt-leb, ne-eqb}
+use borrow.Author.Tests.{leb-true, ne-eqb}
 use Rattle.wire.specs.Wire.{stored}
 use Rattle.answers.specs.Answers.{unlessRefused}
 use Rattle.wire.proofs.Fields.{then, stored-apart}
-use Rattle.answers.proofs.Checks.{both-hold, check-passed}
+use Rattle.answers.proofs.Checks.{check-passed}
 use Rattle.chunk_lists.specs.Words.{readsIn, segmentsIn}
 use Rattle.chunk_lists.proofs.Words.{length-reads, length-segments}
 use Rattle.header.specs.Content.{contentOf, runs}
-use Rattle.header.specs.Words.{writesAt, replyAt, readCountAt, writeChunksAt, replyPresentAt, replyCountAt, kindAt, lowAt, highAt, xidAt, creditAt, kindIn, headerAs, headerIn, countsIn}
+use Rattle.header.specs.Words.{writesAt, replyAt, readCountAt, writeChunksAt, replyCountAt, xidAt, creditAt, headerAs, countsIn}
 use Rattle.header.specs.declared.Header.{Header}
-use Rattle.header.specs.declared.Known.the-variants.{Is, No}
 use Rattle.header.specs.declared.Kind.{Kind}
 use Rattle.header.specs.Bytes.{readListBytes, writeListBytes, restBytes, fixedBytes, headerBytes}
 use Rattle.writer.specs.Write.{writeAnswer, writeBuffer, writeWordsAnswer, writeWordsBuffer, bareIfError, writeNumber}
 use Rattle.header.specs.Limits.{total, withinLimits}
-use Rattle.writer.specs.Internal.Parts.{limitsKept, partsBytesIn}
-use Rattle.header.proofs.Limits.{counts-long, few-in}
+use Rattle.header.specs.Internal.Counts.{limitsKept}
+use Rattle.writer.specs.Internal.Parts.{partsBytesIn}
+use Rattle.header.proofs.Limits.{FewIn, few-in-words, counts-long}
 use Rattle.header.proofs.Bytes.{reads-length, writes-length, replies-length, fixed-length}
 use Rattle.chunk_lists.proofs.Positions.{positions-zero}
 
@@ -35,33 +35,20 @@ partsSize w present =
 
 -- What holds of three parts within their limits: they have few entries, and so many bytes.
 pub record Passed (w : List ℕ) (present : Bool) : Type 0 where
-  pub few-reads : getD w readCountAt 0 ≤ 16
-  pub few-chunks : getD w writeChunksAt 0 ≤ 4
-  pub few-segments : total (take (getD w writeChunksAt 0) (countsIn w)) ≤ 16
-  pub few-replies : getD w replyCountAt 0 ≤ 16
+  pub few : FewIn w present
   pub size : length (partsBytesIn w present) ≡ partsSize w present
   pub reads-bytes : length (readListBytes (take (getD w readCountAt 0) (readsIn w))) ≡ getD w readCountAt 0 * 24 + 4
   pub writes-bytes : length (writeListBytes (runs (take (getD w writeChunksAt 0) (countsIn w)) (segmentsIn writesAt w))) ≡ getD w writeChunksAt 0 * 8 + total (take (getD w writeChunksAt 0) (countsIn w)) * 16 + 4
 
 -- Three parts within their limits.
 pub passed : (w : List ℕ) (present : Bool) → length w ≡ 238 → limitsKept w present ≡ true → Passed w present
-unfolding withinLimits
 passed w present long h =
-    let a = both-hold (leb (getD w readCountAt 0) 16) _ h in
-    let b = both-hold (leb (getD w writeChunksAt 0) 4) _ (a .1) in
-    let d = both-hold (leb (total (take (getD w writeChunksAt 0) (countsIn w))) 16) _ (b .1) in
-    let i : getD w readCountAt 0 ≤ 16 = leb-true _ _ (a .0) in
-    let j : getD w writeChunksAt 0 ≤ 4 = leb-true _ _ (b .0) in
-    let k : total (take (getD w writeChunksAt 0) (countsIn w)) ≤ 16 = leb-true _ _ (d .0) in
-    let l : getD w replyCountAt 0 ≤ 16 = few-in present (getD w replyCountAt 0) (leb-true _ _ (d .1)) in
-    let reads-bytes = reads-length (getD w readCountAt 0) (readsIn w) (rw (length-reads w) i) in
-    let writes-bytes = writes-length (getD w writeChunksAt 0) (countsIn w) (segmentsIn writesAt w) (rw (counts-long w long) j) (rw (length-segments writesAt w) k) in
-    let reply-bytes = replies-length present (getD w replyCountAt 0) (segmentsIn replyAt w) (rw (length-segments replyAt w) l) in
+    let few = few-in-words w present h in
+    let reads-bytes = reads-length (getD w readCountAt 0) (readsIn w) (rw (length-reads w) (few .reads)) in
+    let writes-bytes = writes-length (getD w writeChunksAt 0) (countsIn w) (segmentsIn writesAt w) (rw (counts-long w long) (few .chunks)) (rw (length-segments writesAt w) (few .segments)) in
+    let reply-bytes = replies-length present (getD w replyCountAt 0) (segmentsIn replyAt w) (rw (length-segments replyAt w) (few .replies)) in
     record {
-      few-reads = i;
-      few-chunks = j;
-      few-segments = k;
-      few-replies = l;
+      few = few;
       size = simp (length-append, reads-bytes, writes-bytes, reply-bytes);
       reads-bytes = reads-bytes;
       writes-bytes = writes-bytes;
@@ -102,19 +89,6 @@ accepted h room e =
     let b = check-passed (withinLimits (h .reads .count) (h .writes .chunks) (h .writes .counts) (h .reply .present) (h .reply .count)) 7 _ (omega arith) a in
     let d = check-passed (leb n 1024) 21 _ (omega arith) (positions-zero 0 (contentOf h .reads) _ (b .1)) .1 in
     (b .0, leb-true n room (check-passed (leb n room) 16 0 (omega arith) d .0))
-
--- The header that words hold: none where its kind or its flag is unknown.
-pub held : (w : List ℕ) (kind : Kind) → kindIn (getD w kindAt 0) (getD w lowAt 0) (getD w highAt 0) ≡ Is kind → getD w replyPresentAt 0 ≤ 1 → headerIn w ≡ some (headerAs w kind (eqb (getD w replyPresentAt 0) 1))
-unfolding headerIn
-held w kind e h = rw (e, le-leb _ _ h)
-
-pub kind-unknown : (w : List ℕ) → kindIn (getD w kindAt 0) (getD w lowAt 0) (getD w highAt 0) ≡ No → headerIn w ≡ none
-unfolding headerIn
-kind-unknown w e = rw e
-
-pub flag-unknown : (w : List ℕ) (kind : Kind) → kindIn (getD w kindAt 0) (getD w lowAt 0) (getD w highAt 0) ≡ Is kind → 1 < getD w replyPresentAt 0 → headerIn w ≡ none
-unfolding headerIn
-flag-unknown w kind e h = rw (e, lt-leb _ _ h)
 
 -- A refused writing has written 0 bytes.
 pub none-written : (h : Header) (room : ℕ) → unlessRefused (writeAnswer h room .number) (writeAnswer h room .length) 0 ≡ writeAnswer h room .length

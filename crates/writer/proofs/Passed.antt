@@ -15,7 +15,8 @@ use Rattle.chunk_lists.specs.Lists.{positionsNumber}
 use Rattle.header.specs.Content.{Content, replyChunkOf, headerOf, runs, replyOf, contentOf}
 use Rattle.header.specs.Bytes.{countedBytes, chunkBytes, readListBytes, writeListBytes, replyBytes, errorBytes, restBytes, fixedBytes, headerBytes}
 use Rattle.writer.specs.Write.{bareIfError, writeNumber}
-use Rattle.header.specs.Limits.{total, withinLimits}
+use Rattle.header.specs.Limits.{total, withinLimits, keepsLimits}
+use Rattle.header.proofs.Limits.{few-counts}
 use Rattle.wire.specs.Fits.{All, SegmentFits, ReadSegmentFits}
 use Rattle.header.specs.Fits.{Representable}
 use Rattle.header.specs.declared.Kind.{Kind}
@@ -44,22 +45,20 @@ pub record Passed (h : Header) (room : ℕ) : Type 0 where
 
 -- The number 0 says that every check passed.
 pub write-passed : (h : Header) (room : ℕ) → writeNumber h room ≡ 0 → Passed h room
-unfolding writeNumber withinLimits
+unfolding writeNumber
 write-passed h room e =
     let a = check-passed (bareIfError (h .kind) (h .reads .count) (h .writes .chunks) (h .reply .present)) 12 _ (omega arith) e in
-    let k = check-passed (withinLimits (h .reads .count) (h .writes .chunks) (h .writes .counts) (h .reply .present) (h .reply .count)) 7 _ (omega arith) (a .1) in
-    let b = both-hold (leb (h .reads .count) 16) _ (k .0) in
-    let c = both-hold (leb (h .writes .chunks) 4) _ (b .1) in
-    let d = both-hold (leb (total (take (h .writes .chunks) (h .writes .counts))) 16) _ (c .1) in
+    let k = check-passed (keepsLimits h) 7 _ (omega arith) (a .1) in
+    let few = few-counts _ _ _ _ _ (k .0) in
     let next = positions-zero 0 (contentOf h .reads) _ (k .1) in
     let g = check-passed (leb (length (headerBytes (contentOf h))) 1024) 21 _ (omega arith) next in
     let i = check-passed (leb (length (headerBytes (contentOf h))) room) 16 _ (omega arith) (g .1) in
     record {
       bare = a .0;
-      reads = leb-true _ _ (b .0);
-      chunks = leb-true _ _ (c .0);
-      sum = leb-true _ _ (d .0);
-      reply = leb-true _ _ (d .1);
+      reads = few .reads;
+      chunks = few .chunks;
+      sum = few .segments;
+      reply = few .there;
       rising = subst (λ (n : ℕ). positionsNumber 0 (contentOf h .reads) n ≡ 0) next (k .1);
       short = leb-true _ _ (g .0);
       fits = leb-true _ _ (i .0);

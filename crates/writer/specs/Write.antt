@@ -13,7 +13,7 @@ use Rattle.header.specs.declared.Kind.{Kind}
 use Rattle.header.specs.declared.Kind.the-variants.{Msg, Nomsg, Error}
 use Rattle.header.specs.declared.Header.{Header}
 use Rattle.header.specs.Bytes.{headerBytes}
-use Rattle.header.specs.Limits.{withinLimits}
+use Rattle.header.specs.Limits.{keepsLimits}
 
 -- "12 (here only for an ERROR header with any entry or a reply chunk)"
 abbrev pub bareIfError : Kind → ℕ → ℕ → Bool → Bool
@@ -25,7 +25,7 @@ bareIfError (Error e) reads chunks present = eqb reads 0 && (eqb chunks 0 && not
 unfoldable pub writeNumber : Header → ℕ → ℕ
 writeNumber h room =
     check (bareIfError (h .kind) (h .reads .count) (h .writes .chunks) (h .reply .present)) 12
-    (check (withinLimits (h .reads .count) (h .writes .chunks) (h .writes .counts) (h .reply .present) (h .reply .count)) 7
+    (check (keepsLimits h) 7
     (positionsNumber 0 (contentOf h .reads)
     (check (leb (length (headerBytes (contentOf h))) 1024) 21
     (roomNumber (headerBytes (contentOf h)) room))))

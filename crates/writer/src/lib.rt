@@ -18,7 +18,8 @@ ghost use Rattle.header.specs.Words.{xidAt, creditAt, headerAs, headerIn, count
 ghost use Rattle.header.specs.Bytes.{entryBytes, chunkBytes, readListBytes, writeListBytes, replyBytes, errorBytes, fixedBytes, procedureOf, restBytes, headerBytes};
 ghost use Rattle.writer.specs.Write.{bareIfError, writeNumber, writeAnswer, writeBuffer, writeWordsAnswer, writeWordsBuffer};
 ghost use Rattle.header.specs.Limits.{total};
-ghost use Rattle.writer.specs.Internal.Parts.{limitsKept, partsBytesIn};
+ghost use Rattle.header.specs.Internal.Counts.{limitsKept};
+ghost use Rattle.writer.specs.Internal.Parts.{partsBytesIn};
 
 pub const MAX_HEADER_BYTES: usize = 1024;
 

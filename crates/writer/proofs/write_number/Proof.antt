@@ -16,7 +16,7 @@ use Rattle.header.specs.Content.{contentOf}
 use Rattle.header.specs.Words.{readCountAt, headerAs, countsIn}
 use Rattle.header.specs.declared.Header.{Header}
 use Rattle.writer.specs.Write.{writeNumber}
-use Rattle.writer.specs.Internal.Parts.{limitsKept}
+use Rattle.header.specs.Internal.Counts.{limitsKept}
 use Rattle.header.specs.Bytes.{headerBytes}
 use Rattle.writer.proofs.HeaderWriting.{Passed, passed, sized}
 use Rattle.chunk_lists.proofs.Positions.{positions-fault, positions-fine}
@@ -71,13 +71,13 @@ returns-2 c =
     simp (← (c .before .before .before .before .bare-if-error .ensures), not-false (c .before .before .before .before .bare-if-error .result) (c .before .before .before .if1 .left), ← limits, not-true (c .before .within-limits .result) (c .if2 .taken))
 
 check-positions-requires : tie.Need-check-positions-requires
-check-positions-requires c κs = let k = known c in (k .few-reads, omega arith)
+check-positions-requires c κs = let k = known c in (k .few .reads, omega arith)
 
 returns-3 : tie.Need-returns-3
 returns-3 c = sym (then-positions (c .before .before) ∙ positions-fault 0 _ (λ e. c .if3 .taken (c .before .check-positions .ensures ∙ e)) _ ∙ sym (c .before .check-positions .ensures))
 
 header-length-requires : tie.Need-header-length-requires
-header-length-requires c κs = let k = known (c .before .before) in (k .few-reads, k .few-chunks, rw (c .before .before .before .before .total-count .ensures) (k .few-segments), k .few-replies)
+header-length-requires c κs = let k = known (c .before .before) in (k .few .reads, k .few .chunks, rw (c .before .before .before .before .total-count .ensures) (k .few .segments), k .few .replies)
 
 returns-4 : tie.Need-returns-4
 returns-4 c = sym (then-length (c .before) ∙ simp (lt-leb _ _ (c .if4 .taken)))

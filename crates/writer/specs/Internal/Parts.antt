@@ -7,11 +7,6 @@ use Rattle.chunk_lists.specs.Words.{readsIn, segmentsIn}
 use Rattle.header.specs.Content.{runs, replyOf}
 use Rattle.header.specs.Words.{writesAt, replyAt, readCountAt, writeChunksAt, replyCountAt, countsIn}
 use Rattle.header.specs.Bytes.{partsBytes}
-use Rattle.header.specs.Limits.{withinLimits}
-
--- Whether the counts are within their limits.
-abbrev pub limitsKept : List ℕ → Bool → Bool
-limitsKept w present = withinLimits (getD w readCountAt 0) (getD w writeChunksAt 0) (countsIn w) present (getD w replyCountAt 0)
 
 -- The bytes of the three parts, where they are.
 abbrev pub partsBytesIn : List ℕ → Bool → List ℕ
