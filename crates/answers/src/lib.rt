@@ -45,6 +45,8 @@ pub const BYTES_MISSING: u32 = 19;
 pub const BAD_ARGUMENT: u32 = 20;
 // "a header to be written is longer than 1,024 bytes"
 pub const HEADER_LONG: u32 = 21;
+// Of order 1: a reply that cannot answer the header that was sent; `returned` has the conditions, each under its words.
+pub const REPLY_MISMATCH: u32 = 26;
 
 // What a writer answers: its number, and with 0 how many bytes it wrote.
 pub struct WriteAnswer {

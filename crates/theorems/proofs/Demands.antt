@@ -2,16 +2,19 @@
 -- Demand 1 is met by the contracts of the calls themselves, which ask nothing of a caller.
 -- Assumes nothing.
 use mathlib.Core.Path.{_≡_}
-use mathlib.Core.Bool.{true}
-use mathlib.Core.List.{List, [], _++_}
+use mathlib.Core.Bool.{true, false, _&&_}
+use mathlib.Core.List.{List, [], _∷_, _++_}
 use mathlib.Core.Option.{some}
 use Prim.Native.Nat.{ℕ, _+_, _-_, _/_, _≤_}
-use lib.ListN.{length, getD, take, drop}
+use lib.ListN.{length, getD, take, drop, replicate}
 use Rattle.wire.specs.Wire.{wordAt}
 use Rattle.wire.specs.Fits.{AllBytes, AllWords, All, Word32}
+use Rattle.answers.specs.Answers.{unlessRefused}
+use Rattle.wire.specs.declared.Segment.{Segment}
 use Rattle.wire.specs.declared.ReadSegment.{ReadSegment}
 use Rattle.chunk_lists.specs.Parsed.{done}
-use Rattle.header.specs.Content.{Content, headerOf}
+use Rattle.header.specs.Content.{Content, padded, headerOf, contentOf}
+use Rattle.header.specs.Limits.{keepsLimits}
 use Rattle.header.specs.Fits.{Representable, zeroed}
 use Rattle.header.specs.Words.{headerIn, headerWords}
 use Rattle.header.specs.declared.Header.{Header}
@@ -30,6 +33,11 @@ use Rattle.error_reply.proofs.ReplyRead as reply-read
 use Rattle.layout.specs.Layout.{otherChunks}
 use Rattle.layout.specs.Once.{Once}
 use Rattle.assembly_start.specs.Start.{baseOf, startNumber, startAnswer}
+use Rattle.returned.specs.Returned.{chunkLength, replyChunkLength, returnedAnswer, returnedWordsNumber, returnedWordsPlaces}
+use Rattle.returned.specs.Filled.{filled, Fills}
+use Rattle.returned.proofs.Fills as fills
+use Rattle.returned.proofs.Unused as unused
+use Rattle.returned.proofs.Lent as lent
 use Rattle.c_header.specs.Part.{partOf}
 use Rattle.c_header.proofs.RoundTrip as c-header
 use Rattle.c_setup.specs.Words.{setupWords, writeSetupWordsAnswer, writeSetupWordsBuffer, Stores}
@@ -38,11 +46,12 @@ use Rattle.theorems.specs.Calls.{Call, startThen}
 use Rattle.theorems.specs.Cuts.{CutOf}
 use Rattle.theorems.specs.Demands.{takenBytes, Finished, Unchanged}
 use Rattle.theorems.specs.Exports.{exportThen}
-use Rattle.theorems.specs.Examples.{Holds, examples, numbers, edges}
+use Rattle.theorems.specs.Examples.{Holds, examples, numbers, edges, returnedCases}
 use Rattle.theorems.proofs.Message as message
 use Rattle.theorems.proofs.Demand3 as demand-three
 use Rattle.theorems.proofs.Exports as exports
 use Rattle.theorems.proofs.Examples as worked
+use Rattle.theorems.proofs.Returned as returns
 
 -- Demand 2, headers: "The writer writes no payload: what was read, written again, gives the frame's bytes before its payload."
 pub demand-2-header-read-written : (frame out : List ℕ) (c : Content) (payload : List ℕ) → AllBytes frame → readFrame frame ≡ done c payload → length frame ≤ length out + length payload →
@@ -142,3 +151,61 @@ numbers-given = worked.numbered
 
 pub edges-hold : All Holds edges
 edges-hold = worked.edged
+
+-- Order 1: "Read the server's answers." A reply that is accepted is that of a server which put as many bytes into each chunk, from the front, as is answered; both headers keep the limits.
+pub order-1-accepted : (sent reply : Header) → returnedAnswer sent reply .number ≡ 0 →
+    (keepsLimits sent ≡ true) × (keepsLimits reply ≡ true) × Fills (contentOf sent) (contentOf reply) (take (length (contentOf sent .writes)) (returnedAnswer sent reply .writes)) (returnedAnswer sent reply .reply)
+order-1-accepted = fills.accepted-fills
+
+-- And the reply of such a server is accepted, with its numbers.
+pub order-1-accepts : (sent reply : Header) (writes : List ℕ) (n : ℕ) → keepsLimits sent ≡ true → keepsLimits reply ≡ true → Fills (contentOf sent) (contentOf reply) writes n →
+    returnedAnswer sent reply ≡ record { writes = padded 4 0 writes; reply = n; number = 0 }
+order-1-accepts = fills.fills-accepted
+
+-- "Either header meeting the writer's 7 .. gets 7 first."; else a reply that no such server can have sent gets 26.
+pub order-1-over-limit : (sent reply : Header) → (keepsLimits sent && keepsLimits reply) ≡ false → returnedAnswer sent reply ≡ record { writes = replicate 4 0; reply = 0; number = 7 }
+order-1-over-limit = fills.over-limit
+
+pub order-1-refused : (sent reply : Header) → keepsLimits sent ≡ true → keepsLimits reply ≡ true → ((writes : List ℕ) (n : ℕ) → Fills (contentOf sent) (contentOf reply) writes n → ⊥) →
+    returnedAnswer sent reply ≡ record { writes = replicate 4 0; reply = 0; number = 26 }
+order-1-refused = fills.not-filled
+
+-- No chunk has more bytes landed than were sent.
+pub order-1-within : (sent reply : Header) →
+    ((k : ℕ) → getD (returnedAnswer sent reply .writes) k 0 ≤ chunkLength (getD (contentOf sent .writes) k [])) × (returnedAnswer sent reply .reply ≤ replyChunkLength (contentOf sent .reply))
+order-1-within = fills.landed-within
+
+-- The number of bytes alone tells how far each segment was filled.
+pub order-1-from-front : (sent reply : Header) → returnedAnswer sent reply .number ≡ 0 →
+    ((k : ℕ) → getD (contentOf reply .writes) k [] ≡ filled (getD (returnedAnswer sent reply .writes) k 0) (getD (contentOf sent .writes) k []))
+    × ((c d : List Segment) → contentOf sent .reply ≡ some c → contentOf reply .reply ≡ some d → d ≡ filled (returnedAnswer sent reply .reply) c)
+order-1-from-front = fills.filled-from-front
+
+-- Unused places are ignored.
+pub order-1-unused : (sent reply : Header) → Representable sent → Representable reply → keepsLimits sent ≡ true → keepsLimits reply ≡ true →
+    returnedAnswer (zeroed sent) (zeroed reply) ≡ returnedAnswer sent reply
+order-1-unused = unused.unused-ignored
+
+-- A reply header that was written and read again gives the same answer.
+pub order-1-written-read : (sent reply : Header) (out : List ℕ) → Representable reply → writeNumber reply (length out) ≡ 0 →
+    returnedAnswer sent (readAnswer (readFrame (take (writeAnswer reply (length out) .length) (writeBuffer reply out))) .header) ≡ returnedAnswer sent reply
+order-1-written-read = returns.written-returned
+
+-- The same through the exports: `eos_returned` gives the number and the numbers of the answer by value, so that all of the above is claimed of it; and the reply that `eos_write_header` wrote and `eos_read_header` read gives the same.
+pub exports-order-1 : (v w before : List ℕ) (sent reply : Header) → headerIn v ≡ some sent → headerIn w ≡ some reply →
+    (returnedWordsNumber (headerIn v) (headerIn w) ≡ returnedAnswer sent reply .number)
+    × (returnedWordsPlaces (headerIn v) (headerIn w) before ≡ unlessRefused (returnedAnswer sent reply .number) (returnedAnswer sent reply .writes ++ (returnedAnswer sent reply .reply ∷ [])) before)
+exports-order-1 = lent.lent-answer
+
+-- A refused call leaves the places, 20 too.
+pub exports-order-1-refused : (v w before : List ℕ) → (returnedWordsNumber (headerIn v) (headerIn w) ≡ 0 → ⊥) → returnedWordsPlaces (headerIn v) (headerIn w) before ≡ before
+exports-order-1-refused = λ v w before. lent.lent-refused (headerIn v) (headerIn w) before
+
+pub exports-order-1-written-read : (v w out before numbers : List ℕ) (reply : Header) → AllWords w → length w ≡ 238 → headerIn w ≡ some reply → writeWordsAnswer (headerIn w) (length out) .number ≡ 0 →
+    (returnedWordsNumber (headerIn v) (headerIn (readWords (readFrame (take (writeWordsAnswer (headerIn w) (length out) .length) (writeWordsBuffer (headerIn w) out))) before)) ≡ returnedWordsNumber (headerIn v) (headerIn w))
+    × (returnedWordsPlaces (headerIn v) (headerIn (readWords (readFrame (take (writeWordsAnswer (headerIn w) (length out) .length) (writeWordsBuffer (headerIn w) out))) before)) numbers ≡ returnedWordsPlaces (headerIn v) (headerIn w) numbers)
+exports-order-1-written-read = returns.exports-written-returned
+
+-- What order 1 says, case by case.
+pub order-1-cases : All Holds returnedCases
+order-1-cases = worked.returned

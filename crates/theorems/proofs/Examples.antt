@@ -16,15 +16,16 @@ use Rattle.layout.specs.Places.{from, scatter}
 use Rattle.layout.specs.Layout.{anyAtZero, zeroLength, joinChunk, otherChunks, roundedUp, roundedTotal, stands, placeNumber, places, gaps, paddings, paddingPlaces, basePlaces, pulledPlaces}
 use Rattle.wire.specs.Wire as wire
 use Rattle.wire.specs.Words.{segmentIn, segmentWords, readSegmentIn, readSegmentWords}
-use Rattle.chunk_lists.specs.Words.{readsIn, readsWords, segmentsWords}
+use Rattle.chunk_lists.specs.Words.{readsIn, readsWords, segmentsIn, segmentsWords}
 use Rattle.assembly_start.specs.Start.{startNumber, startBuffer, startWrites, startWords}
 use Rattle.assembly.specs.Assembly.{canArise, pieceNumber, pieceBuffer, messageNumber, messagePart, pieceWords}
 use Rattle.assembly_state.specs.Words.{stateKind, partsIn, stateWords, withTaken}
 use Rattle.theorems.specs.Calls.{runCalls}
 use Rattle.wire.specs.Fits.{All}
-use Rattle.theorems.specs.Examples.{Holds, entryWords, examples, numbers, edges}
-use Rattle.header.specs.Words.{headerWords}
+use Rattle.theorems.specs.Examples.{Holds, entryWords, examples, numbers, edges, returnedCases}
+use Rattle.header.specs.Words.{kindIn, headerIn, headerWords}
 use Rattle.c_setup.specs.Words.{agreementWords}
+use Rattle.returned.specs.Returned.{any, pairs, chunkPairs, filledBehindGap, mismatch, chunkLength, returnedNumber, returnedAnswer}
 
 -- "C1 to C13 are proved from the definitions as one list with one claim over it."
 pub worked : All Holds examples
@@ -40,3 +41,8 @@ numbered = ((refl, refl), ((refl, refl), ((refl, refl), ((refl, refl), ((refl, r
 pub edged : All Holds edges
 unfolding All words joined wordBytes readFrame byProcedure threeParts readList readEntry segments counted each writeList replyChunk markerOf wordOf wordAt segmentAt readSegmentAt writeAnswer writeBuffer writeNumber withinLimits total positionsNumber headerOf contentOf runs headerBytes fixedBytes readListBytes writeListBytes replyBytes chunkBytes countedBytes entryBytes segmentBytes readSegmentBytes isSetup readSetup granted grantAnswer replyKindOf replyKindFor errorReply errorReplyNumber errorReplyAnswer errorReplyBuffer entryWords segmentIn segmentWords readSegmentIn readSegmentWords readsIn readsWords stateKind partsIn stateWords startWords withTaken pieceWords wire.stored startNumber startBuffer startWrites canArise pieceNumber pieceBuffer messageNumber messagePart runCalls anyAtZero zeroLength joinChunk otherChunks roundedUp roundedTotal stands placeNumber places gaps paddings paddingPlaces basePlaces pulledPlaces from scatter errorBody errorBytes headerWords segmentsWords setupInRule inRule agreement agreementWords writeSetupAnswer writeSetupNumber setupBytes
 edged = ((refl, refl), ((refl, refl), ((refl, refl), ((refl, refl), ((refl, refl), ((refl, refl), ((refl, refl), ((refl, refl), ((refl, refl), ((refl, refl), ((refl, refl), (refl, (refl, (refl, (refl, (refl, (refl, ((refl, (refl, (refl, (refl, (refl, (refl, (refl, (refl, (refl, (refl, (refl, (refl, (refl, (refl, (refl, (refl, (refl, (refl, (refl, (refl, (refl, (refl, (refl, (refl, tt)))))))))))))))))))))))), (refl, (refl, (refl, (refl, ((refl, refl), ((refl, refl), (refl, (refl, ((refl, refl), (refl, (refl, (refl, (refl, (refl, (refl, (refl, (refl, (refl, ((refl, (refl, (refl, (refl, (refl, (refl, (refl, (refl, (refl, (refl, tt)))))))))), ((refl, (refl, (refl, (refl, (refl, tt))))), (refl, (refl, tt))))))))))))))))))))))))))))))))))))))))
+
+-- Order 1, case by case.
+pub returned : All Holds returnedCases
+unfolding All words joined wordBytes wordAt headerOf contentOf runs withinLimits total any pairs chunkPairs filledBehindGap mismatch chunkLength returnedNumber returnedAnswer headerIn kindIn headerWords readsIn segmentsIn readSegmentIn segmentIn each readsWords segmentsWords readSegmentWords segmentWords replyKindFor replyKindOf granted errorReply errorReplyNumber errorReplyAnswer
+returned = (refl, (refl, (refl, (refl, (refl, (refl, (refl, (refl, (refl, (refl, (refl, (refl, (refl, (refl, (refl, (refl, (refl, (refl, (refl, (refl, (refl, (refl, (refl, (refl, (refl, (refl, (refl, (refl, (refl, (refl, (refl, (refl, (refl, (refl, (refl, (refl, (refl, (refl, (refl, (refl, (refl, (refl, (refl, (refl, (refl, (refl, (refl, (refl, (refl, (refl, (refl, (refl, (refl, (refl, (refl, (refl, (refl, (refl, (refl, (refl, ((refl, refl), ((refl, refl), ((refl, refl), ((refl, refl), (refl, tt)))))))))))))))))))))))))))))))))))))))))))))))))))))))))))))))))

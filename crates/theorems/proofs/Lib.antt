@@ -9,4 +9,5 @@ pub mod Exports
 pub mod MessageBuffer
 pub mod TallySettles
 pub mod CutFrame
+pub mod Returned
 pub mod Demands

@@ -1,14 +1,16 @@
 -- "Frames and messages worked through" (document 01): each example as one entry of one list.
-use Prim.Native.Nat.{ℕ, _+_, _*_}
+use Prim.Native.Nat.{ℕ, _+_, _*_, _-_}
 use mathlib.Core.Path.{_≡_}
 use mathlib.Core.List.{List, [], _∷_, _++_, map}
 use mathlib.Core.Bool.{Bool, true, false}
-use lib.ListN.{length, take, getD, replicate}
-use Rattle.wire.specs.Wire.{words, zeroSegment}
+use lib.ListN.{length, take, getD, set, replicate}
+use Rattle.wire.specs.Wire.{words, zeroSegment, zeroReadSegment}
+use Rattle.wire.specs.declared.Segment.{Segment}
+use Rattle.wire.specs.declared.ReadSegment.{ReadSegment}
 use Rattle.reader.specs.Frame.{readFrame, readAnswer, payloadOf}
 use Rattle.header.specs.Content.{headerOf, nothing}
 use Rattle.header.specs.declared.Header.{Header}
-use Rattle.header.specs.declared.Kind.the-variants.{Msg, Error}
+use Rattle.header.specs.declared.Kind.the-variants.{Msg, Nomsg, Error}
 use Rattle.writer.specs.Write.{writeAnswer, writeBuffer}
 use Rattle.assembly.specs.Assembly.{pieceNumber}
 use Rattle.assembly_state.specs.Words.{stateIn}
@@ -18,9 +20,9 @@ use Rattle.setup.specs.Setup.{readSetup, writeSetupAnswer, agreement}
 use Rattle.setup.specs.declared.SetupAnswer.{SetupAnswer}
 use Rattle.credit.specs.Credit.{grantAnswer}
 use Rattle.error_reply.specs.Reply.{errorReplyAnswer, errorReplyBuffer, replyKindOf}
-use mathlib.Core.Option.{none, some}
+use mathlib.Core.Option.{Option, none, some}
 use Rattle.wire.specs.Fits.{All}
-use Rattle.header.specs.Words.{headerWords}
+use Rattle.header.specs.Words.{replyPresentAt, kindAt, headerIn, headerWords}
 use Rattle.header.specs.declared.Kind.{Kind}
 use Rattle.header.specs.declared.ErrorKind.the-variants as error
 use Rattle.setup.specs.declared.Setup.{Setup}
@@ -29,6 +31,7 @@ use Rattle.error_reply.specs.declared.ReplyKind.{ReplyKind}
 use Rattle.error_reply.specs.declared.ReplyKind.the-variants.{None, Version, Chunk}
 use Rattle.layout.specs.Places.{from}
 use Rattle.c_setup.specs.Words.{agreementWords}
+use Rattle.returned.specs.Returned.{returnedAnswer, returnedWordsNumber, returnedWordsPlaces}
 
 -- What a worked example says.
 pub data Example : Type 0 where
@@ -66,6 +69,12 @@ pub data Example : Type 0 where
   start-words : List ℕ → ℕ → List (ℕ × ℕ) → Example
   -- a piece of so many bytes, for a state that lies in these words and a buffer of so many bytes, gives this number
   piece-gives : List ℕ → ℕ → ℕ → ℕ → Example
+  -- a header that was sent and the reply's: so many bytes landed in each write chunk and in the reply chunk
+  lands : Header → Header → List ℕ → ℕ → Example
+  -- they are refused with this number
+  lands-not : Header → Header → ℕ → Example
+  -- the same of words that are lent: the number, and what five places hold then that held 9
+  lends : List ℕ → List ℕ → ℕ → List ℕ → Example
 
 -- What it means that a worked example holds.
 abbrev pub Holds : Example → Type 0
@@ -92,6 +101,10 @@ Holds (replies-are kinds) = map replyKindOf (from 0 22) ≡ kinds
 Holds (reply-gives frame number limit room refusal) = errorReplyAnswer frame number limit room ≡ record { number = refusal; length = 0 }
 Holds (start-words frame room values) = All (λ x. getD (startAnswer (readFrame frame) room .state) (x .0) 0 ≡ x .1) values
 Holds (piece-gives w room size number) = pieceNumber (stateIn w) room size ≡ number
+Holds (lands sent reply writes n) = returnedAnswer sent reply ≡ record { writes = writes; reply = n; number = 0 }
+Holds (lands-not sent reply number) = returnedAnswer sent reply ≡ record { writes = 0 ∷ 0 ∷ 0 ∷ 0 ∷ []; reply = 0; number = number }
+Holds (lends sent reply number landed) =
+    (returnedWordsNumber (headerIn sent) (headerIn reply) ≡ number) × (returnedWordsPlaces (headerIn sent) (headerIn reply) (replicate 5 9) ≡ landed)
 
 -- "C2 Words 2a, 1, 20, 0, 0, 0, 0 (hexadecimal)"
 abbrev pub c2 : List ℕ
@@ -216,16 +229,20 @@ reading kind positions = headerOf (record {
   reply = none;
 })
 
--- A header with a segment in a reply chunk that is absent.
-abbrev pub absentWithSegment : Header
-absentWithSegment = record {
-  reads = headerOf nothing .reads;
-  writes = headerOf nothing .writes;
-  reply = record { segments = replicate 16 zeroSegment; count = 1; present = false };
-  kind = Msg;
-  xid = 0;
+-- A header of which only the counts matter: of read segments, of write chunks and of the segments in each, of those in the reply chunk.
+abbrev pub counting : Kind → ℕ → ℕ → List ℕ → Bool → ℕ → Header
+counting kind reads chunks counts present replies = record {
+  reads = record { segments = replicate 16 zeroReadSegment; count = reads };
+  writes = record { segments = replicate 16 zeroSegment; counts = counts; chunks = chunks };
+  reply = record { segments = replicate 16 zeroSegment; count = replies; present = present };
+  kind = kind;
+  xid = 0x2a;
   credit = 0;
 }
+
+-- No write chunks.
+abbrev pub noCounts : List ℕ
+noCounts = replicate 4 0
 
 -- A header with a write chunk and a reply chunk, their offsets above 32 bits.
 abbrev pub offsets : Header
@@ -254,7 +271,7 @@ edges =
     ∷ header-writes (reading (Error (error.Version 5 6)) []) (words (0 ∷ 1 ∷ 0 ∷ 4 ∷ 1 ∷ 5 ∷ 6 ∷ []))
     ∷ header-gives (reading (Error error.Chunk) (replicate 17 6)) 0 12
     ∷ header-gives (reading Msg (replicate 17 6)) 0 7
-    ∷ header-gives absentWithSegment 0 7
+    ∷ header-gives (counting Msg 0 0 noCounts false 1) 0 7
     ∷ header-gives (reading Msg (8 ∷ 6 ∷ [])) 0 9
     ∷ header-gives (reading Msg (8 ∷ 4 ∷ [])) 0 8
     ∷ header-gives (reading Msg []) 27 16
@@ -281,4 +298,119 @@ edges =
     ∷ start-words (call 1 ((0, 12) ∷ (8, 5) ∷ []) []) 20 ((6, 8) ∷ (96, 12) ∷ (98, 20) ∷ (102, 2) ∷ (103, 1) ∷ [])
     ∷ piece-gives (replicate 104 0) 0 0 0
     ∷ piece-gives (replicate 104 0) 4 0 17
+    ∷ []
+
+-- Order 1. Segments of these lengths, all in one memory.
+abbrev pub lengths : List ℕ → List Segment
+lengths ns = map (λ n. record { handle = 7; length = n; offset = 9 }) ns
+
+-- A header with write chunks and a reply chunk of these segments.
+abbrev pub holding : Kind → ℕ → List (List Segment) → Option (List Segment) → Header
+holding kind xid writes reply = headerOf (record { kind = kind; xid = xid; credit = 0; reads = []; writes = writes; reply = reply })
+
+-- One with write chunks of these lengths and no reply chunk.
+abbrev pub chunks : List (List ℕ) → Header
+chunks ls = holding Msg 0x2a (map lengths ls) none
+
+-- One with a reply chunk of these lengths and no write chunks.
+abbrev pub withReply : Kind → List ℕ → Header
+withReply kind ns = holding kind 0x2a [] (some (lengths ns))
+
+-- One with a single write segment, or a reply chunk of one.
+abbrev pub withWriteSegment : Segment → Header
+withWriteSegment x = holding Msg 0x2a ((x ∷ []) ∷ []) none
+
+abbrev pub withReplySegment : Segment → Header
+withReplySegment x = holding Nomsg 0x2a [] (some (x ∷ []))
+
+-- A call with all parts, and its reply with these lengths: memory, kinds and credits differ, and offsets need 64 bits.
+abbrev pub allParts : Kind → ℕ → List ReadSegment → ℕ → ℕ → ℕ → ℕ → ℕ → Header
+allParts kind credit reads a b c d e = headerOf (record {
+  kind = kind;
+  xid = 0x2a;
+  credit = credit;
+  reads = reads;
+  writes = (record { handle = 1; length = a; offset = 1099511627776 } ∷ record { handle = 2; length = b; offset = 2 } ∷ []) ∷ [] ∷ (record { handle = 3; length = c; offset = 3 } ∷ []) ∷ [];
+  reply = some (record { handle = 4; length = d; offset = 4 } ∷ record { handle = 5; length = e; offset = 18446744073709551615 } ∷ []);
+})
+
+-- A header with one write chunk of these lengths, and a number in all unused places.
+abbrev pub withNoise : ℕ → List ℕ → Header
+withNoise noise ns = record {
+  reads = record { segments = replicate 16 (record { position = noise; target = record { handle = noise; length = noise; offset = noise } }); count = 0 };
+  writes = record { segments = lengths ns ++ replicate (16 - length ns) (record { handle = noise; length = noise; offset = noise }); counts = length ns ∷ noise ∷ noise ∷ noise ∷ []; chunks = 1 };
+  reply = record { segments = replicate 16 (record { handle = noise; length = noise; offset = noise }); count = 0; present = false };
+  kind = Msg;
+  xid = 0x2a;
+  credit = noise;
+}
+
+-- What order 1 says: replies that are fine, then each condition of 26 in its sequence, then 7; then the words that are lent; then 26 as an argument of the error reply.
+abbrev pub returnedCases : List Example
+returnedCases =
+    lands (chunks ((4 ∷ 0 ∷ 4 ∷ []) ∷ [])) (chunks ((4 ∷ 0 ∷ 2 ∷ []) ∷ [])) (6 ∷ 0 ∷ 0 ∷ 0 ∷ []) 0
+    ∷ lands (chunks ((4 ∷ 4 ∷ []) ∷ [])) (chunks ((0 ∷ 0 ∷ []) ∷ [])) (0 ∷ 0 ∷ 0 ∷ 0 ∷ []) 0
+    ∷ lands (chunks ((4 ∷ []) ∷ (4 ∷ []) ∷ [])) (chunks ((2 ∷ []) ∷ (3 ∷ []) ∷ [])) (2 ∷ 3 ∷ 0 ∷ 0 ∷ []) 0
+    ∷ lands (chunks (replicate 4 (5 ∷ []))) (chunks ((1 ∷ []) ∷ (2 ∷ []) ∷ (3 ∷ []) ∷ (4 ∷ []) ∷ [])) (1 ∷ 2 ∷ 3 ∷ 4 ∷ []) 0
+    ∷ lands (chunks (replicate 16 4294967295 ∷ [])) (chunks (replicate 16 4294967295 ∷ [])) (68719476720 ∷ 0 ∷ 0 ∷ 0 ∷ []) 0
+    ∷ lands (withReply Msg (replicate 16 4294967295)) (withReply Nomsg (replicate 16 4294967295)) (0 ∷ 0 ∷ 0 ∷ 0 ∷ []) 68719476720
+    ∷ lands (allParts Msg 32 (record { position = 6; target = zeroSegment } ∷ record { position = 4; target = zeroSegment } ∷ []) 8 8 6 8 8) (allParts Nomsg 5 [] 8 3 6 8 5) (11 ∷ 0 ∷ 6 ∷ 0 ∷ []) 13
+    ∷ lands (allParts Nomsg 5 [] 8 8 6 8 8) (allParts Nomsg 32 [] 2 0 1 8 0) (2 ∷ 0 ∷ 1 ∷ 0 ∷ []) 8
+    ∷ lands (allParts Nomsg 5 [] 8 8 6 8 8) (allParts Msg 32 [] 8 0 1 0 0) (8 ∷ 0 ∷ 1 ∷ 0 ∷ []) 0
+    ∷ lands (withNoise 1 (4 ∷ 4 ∷ [])) (withNoise 2 (4 ∷ 1 ∷ [])) (5 ∷ 0 ∷ 0 ∷ 0 ∷ []) 0
+    ∷ lands (withNoise 4294967295 (4 ∷ [])) (withNoise 0 (0 ∷ [])) (0 ∷ 0 ∷ 0 ∷ 0 ∷ []) 0
+    ∷ lands (withReply Msg (8 ∷ [])) (chunks []) (0 ∷ 0 ∷ 0 ∷ 0 ∷ []) 0
+    ∷ lands (withReply Nomsg (8 ∷ [])) (chunks []) (0 ∷ 0 ∷ 0 ∷ 0 ∷ []) 0
+    ∷ lands (withReply Msg []) (withReply Nomsg []) (0 ∷ 0 ∷ 0 ∷ 0 ∷ []) 0
+    ∷ lands (counting Msg 16 4 (4 ∷ 4 ∷ 4 ∷ 4 ∷ []) true 16) (counting Nomsg 0 4 (4 ∷ 4 ∷ 4 ∷ 4 ∷ []) true 16) (0 ∷ 0 ∷ 0 ∷ 0 ∷ []) 0
+    ∷ lands-not (chunks []) (holding Msg 0x2b [] none) 26
+    ∷ lands-not (chunks []) (counting Msg 1 0 noCounts false 0) 26
+    ∷ lands-not (holding (Error error.Chunk) 0x2a [] none) (chunks []) 26
+    ∷ lands-not (holding (Error (error.Version 1 1)) 0x2a [] none) (chunks []) 26
+    ∷ lands-not (chunks []) (holding (Error error.Chunk) 0x2a [] none) 26
+    ∷ lands-not (chunks []) (holding (Error (error.Version 1 1)) 0x2a [] none) 26
+    ∷ lands-not (chunks ((4 ∷ []) ∷ [])) (chunks []) 26
+    ∷ lands-not (chunks ([] ∷ [])) (chunks []) 26
+    ∷ lands-not (chunks []) (chunks ([] ∷ [])) 26
+    ∷ lands-not (chunks ((0 ∷ 0 ∷ []) ∷ [])) (chunks ((0 ∷ []) ∷ [])) 26
+    ∷ lands-not (chunks ((4 ∷ []) ∷ (4 ∷ 4 ∷ []) ∷ [])) (chunks ((4 ∷ 4 ∷ []) ∷ (4 ∷ []) ∷ [])) 26
+    ∷ lands-not (withReply Msg (0 ∷ 0 ∷ [])) (withReply Msg (0 ∷ [])) 26
+    ∷ lands-not (withReply Msg (4 ∷ [])) (withReply Nomsg (4 ∷ 0 ∷ [])) 26
+    ∷ lands-not (withWriteSegment (record { handle = 7; length = 4; offset = 9 })) (withWriteSegment (record { handle = 8; length = 4; offset = 9 })) 26
+    ∷ lands-not (withWriteSegment (record { handle = 7; length = 4; offset = 9 })) (withWriteSegment (record { handle = 7; length = 0; offset = 8 })) 26
+    ∷ lands-not (withWriteSegment (record { handle = 7; length = 4; offset = 9 })) (withWriteSegment (record { handle = 7; length = 4; offset = 4294967305 })) 26
+    ∷ lands-not (withReplySegment (record { handle = 7; length = 4; offset = 9 })) (withReplySegment (record { handle = 8; length = 4; offset = 9 })) 26
+    ∷ lands-not (withReplySegment (record { handle = 7; length = 4; offset = 9 })) (withReplySegment (record { handle = 7; length = 4; offset = 4294967305 })) 26
+    ∷ lands-not (chunks ((4 ∷ []) ∷ [])) (chunks ((5 ∷ []) ∷ [])) 26
+    ∷ lands-not (chunks ((4 ∷ []) ∷ (4 ∷ []) ∷ [])) (chunks ((4 ∷ []) ∷ (5 ∷ []) ∷ [])) 26
+    ∷ lands-not (withReply Msg (4 ∷ [])) (withReply Nomsg (5 ∷ [])) 26
+    ∷ lands-not (chunks ((4 ∷ 4 ∷ 4 ∷ []) ∷ [])) (chunks ((4 ∷ 0 ∷ 1 ∷ []) ∷ [])) 26
+    ∷ lands-not (chunks ((4 ∷ 4 ∷ 4 ∷ []) ∷ [])) (chunks ((3 ∷ 4 ∷ 4 ∷ []) ∷ [])) 26
+    ∷ lands-not (chunks ((4 ∷ 0 ∷ 4 ∷ []) ∷ [])) (chunks ((3 ∷ 0 ∷ 1 ∷ []) ∷ [])) 26
+    ∷ lands-not (withReply Msg (4 ∷ 4 ∷ [])) (withReply Nomsg (3 ∷ 1 ∷ [])) 26
+    ∷ lands-not (withReply Msg (8 ∷ [])) (holding Nomsg 0x2a [] none) 26
+    ∷ lands-not (withReply Nomsg (8 ∷ [])) (holding Nomsg 0x2a [] none) 26
+    ∷ lands-not (chunks []) (holding Nomsg 0x2a [] none) 26
+    ∷ lands-not (chunks []) (withReply Msg []) 26
+    ∷ lands-not (chunks []) (withReply Nomsg []) 26
+    ∷ lands-not (withReply Msg (8 ∷ [])) (withReply Msg (8 ∷ [])) 26
+    ∷ lands-not (withReply Nomsg (8 ∷ [])) (withReply Msg (8 ∷ [])) 26
+    ∷ lands-not (withReply Msg (0 ∷ 8 ∷ [])) (withReply Msg (0 ∷ 1 ∷ [])) 26
+    ∷ lands-not (holding Msg 0x2a [] (some (record { handle = 7; length = 4; offset = 9 } ∷ []))) (holding Msg 0x2a [] (some (record { handle = 8; length = 0; offset = 9 } ∷ []))) 26
+    ∷ lands-not (counting Msg 17 0 noCounts false 0) (chunks []) 7
+    ∷ lands-not (chunks []) (counting Msg 17 0 noCounts false 0) 7
+    ∷ lands-not (counting Msg 0 5 noCounts false 0) (chunks []) 7
+    ∷ lands-not (chunks []) (counting Nomsg 0 5 noCounts false 0) 7
+    ∷ lands-not (counting Msg 0 2 (16 ∷ 1 ∷ 0 ∷ 0 ∷ []) false 0) (chunks []) 7
+    ∷ lands-not (chunks []) (counting Msg 0 2 (2147483648 ∷ 2147483648 ∷ 0 ∷ 0 ∷ []) false 0) 7
+    ∷ lands-not (counting Msg 0 0 noCounts true 17) (chunks []) 7
+    ∷ lands-not (chunks []) (counting Nomsg 0 0 noCounts true 17) 7
+    ∷ lands-not (counting Msg 0 0 noCounts false 1) (chunks []) 7
+    ∷ lands-not (chunks []) (counting (Error error.Chunk) 0 0 noCounts false 1) 7
+    ∷ lands-not (counting (Error (error.Version 1 1)) 0 5 noCounts false 0) (holding Msg 0x2b [] none) 7
+    ∷ lends (headerWords (holding Msg 0x2a (replicate 4 (lengths (8 ∷ []))) (some (lengths (8 ∷ []))))) (headerWords (holding Nomsg 0x2a (map lengths ((1 ∷ []) ∷ (2 ∷ []) ∷ (3 ∷ []) ∷ (4 ∷ []) ∷ [])) (some (lengths (5 ∷ []))))) 0 (1 ∷ 2 ∷ 3 ∷ 4 ∷ 5 ∷ [])
+    ∷ lends (headerWords (chunks [])) (headerWords (holding Msg 0x2b [] none)) 26 (replicate 5 9)
+    ∷ lends (set (headerWords (counting Msg 0 5 noCounts false 0)) kindAt 4) (headerWords (chunks [])) 20 (replicate 5 9)
+    ∷ lends (headerWords (counting Msg 0 5 noCounts false 0)) (set (headerWords (chunks [])) replyPresentAt 2) 20 (replicate 5 9)
+    ∷ reply-gives c3 26 32 28 20
     ∷ []

@@ -1,0 +1,10 @@
+pub mod Chunks
+pub mod Writes
+pub mod Replies
+pub mod Parts
+pub mod Headers
+pub mod Accepted
+pub mod Filled
+pub mod Fills
+pub mod Unused
+pub mod Lent
