@@ -1,7 +1,7 @@
 //! The structs and calls of include/eoswynnor.h, under its names without `eos_`. What a caller has to keep to is said
 //! there.
 
-/// Memory that the other side registered.
+/// Memory that one side registered for the other.
 #[repr(C)]
 #[derive(Clone, Copy, Debug, Default, PartialEq, Eq)]
 pub struct Segment {
@@ -77,12 +77,23 @@ pub struct State {
     pub kind: u32,
 }
 
+/// The bytes that a reply says were put into each write chunk and into the reply chunk.
+#[repr(C)]
+#[derive(Clone, Copy, Debug, Default, PartialEq, Eq)]
+pub struct Landed {
+    /// 0 behind the last chunk.
+    pub writes: [u64; 4],
+    /// 0 where there is no reply chunk.
+    pub reply: u64,
+}
+
 // As many bytes as the fields have together: no holes.
 const _: () = assert!(size_of::<Segment>() == 16 && size_of::<ReadSegment>() == 24);
 const _: () = assert!(size_of::<Header>() == 16 * (24 + 16 + 16) + 14 * 4);
 const _: () = assert!(size_of::<Part>() == 2 * 8);
 const _: () = assert!(size_of::<Setup>() == 3 * 4 && size_of::<Agreement>() == 3 * 4);
 const _: () = assert!(size_of::<State>() == 16 * 24 + 3 * 8 + 2 * 4);
+const _: () = assert!(size_of::<Landed>() == 5 * 8);
 
 extern "C" {
     pub fn eos_read_header(frame: *const u8, frame_len: usize, header: *mut Header) -> u32;
@@ -116,4 +127,5 @@ extern "C" {
         out_len: usize,
     ) -> u32;
     pub fn eos_message(state: *const State, out: *const u8, out_len: usize, length: *mut usize) -> u32;
+    pub fn eos_returned(sent: *const Header, reply: *const Header, landed: *mut Landed) -> u32;
 }

@@ -36,6 +36,12 @@ pub trait AssemblyCalls {
     fn message(&self, state: &mut ffi::State, out: &mut [u8], length: &mut usize) -> u32;
 }
 
-pub trait Calls: HeaderCalls + SetupCalls + ReplyCalls + AssemblyCalls {}
+pub trait ReturnedCalls {
+    fn returned(&self, sent: &mut ffi::Header, reply: &mut ffi::Header, landed: &mut ffi::Landed) -> u32;
+    /// The same call, with one header lent as both.
+    fn returned_itself(&self, both: &mut ffi::Header, landed: &mut ffi::Landed) -> u32;
+}
 
-impl<T: HeaderCalls + SetupCalls + ReplyCalls + AssemblyCalls> Calls for T {}
+pub trait Calls: HeaderCalls + SetupCalls + ReplyCalls + AssemblyCalls + ReturnedCalls {}
+
+impl<T: HeaderCalls + SetupCalls + ReplyCalls + AssemblyCalls + ReturnedCalls> Calls for T {}

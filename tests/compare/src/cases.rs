@@ -3,6 +3,7 @@
 pub mod assembly;
 pub mod header;
 pub mod reply;
+pub mod returned;
 pub mod setup;
 
 use crate::calls::Calls;
@@ -40,5 +41,6 @@ pub fn run<C: Calls>(check: &mut Checker<C>, seed: u64, cases: u64) -> Outcome {
     header::run(check, rng, cases)?;
     setup::run(check, rng, cases)?;
     reply::run(check, rng, cases)?;
-    assembly::run(check, rng, cases)
+    assembly::run(check, rng, cases)?;
+    returned::run(check, rng, cases)
 }

@@ -4,6 +4,7 @@ mod assembly;
 mod header;
 mod lent;
 mod reply;
+mod returned;
 mod seen;
 mod setup;
 mod watched;

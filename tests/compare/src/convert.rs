@@ -2,6 +2,7 @@
 
 use crate::reference::assembly::State;
 use crate::reference::header::{self, Fault, Header, Kind, ReadSegment, Reply, Segment};
+use crate::reference::returned::Landed;
 use crate::reference::setup::{Agreement, Setup};
 use crate::words::Words;
 use eoswynnor::ffi::{self, ERROR_CHUNK, ERROR_VERSION, MSG, NOMSG};
@@ -143,4 +144,11 @@ pub fn unflatten_state(flat: &ffi::State) -> Result<State, u32> {
     let &ffi::State { base, buffer, taken, .. } = flat;
     let reads = cut(flat.reads.iter().map(|&entry| entry.into()), flat.read_count, header::MAX_READS);
     Ok(State { kind, reads, base, buffer, taken })
+}
+
+/// 0 behind the last write chunk.
+pub fn flatten_landed(landed: &Landed) -> ffi::Landed {
+    let mut flat = ffi::Landed { reply: landed.reply, ..ffi::Landed::ZERO };
+    place(&mut flat.writes, &landed.writes);
+    flat
 }

@@ -1,5 +1,6 @@
-//! A second implementation of the calls on headers, setup data, credits, error replies and the
-//! reassembly, and the means to compare. Each folder has a file for each of these subjects.
+//! A second implementation of the calls on headers, setup data, credits and error replies, the
+//! reassembly and what replies say was landed, and the means to compare. Each folder has a file for
+//! each of these subjects.
 
 pub mod calls;
 pub mod cases;

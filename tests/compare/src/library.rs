@@ -1,6 +1,6 @@
 //! The calls of the compiled library. Each is lent exactly what it is given.
 
-use crate::calls::{AssemblyCalls, HeaderCalls, ReplyCalls, SetupCalls};
+use crate::calls::{AssemblyCalls, HeaderCalls, ReplyCalls, ReturnedCalls, SetupCalls};
 use eoswynnor::ffi;
 
 pub struct Library;
@@ -73,5 +73,18 @@ impl AssemblyCalls for Library {
     #[inline(always)]
     fn message(&self, state: &mut ffi::State, out: &mut [u8], length: &mut usize) -> u32 {
         unsafe { ffi::eos_message(&raw mut *state, out.as_mut_ptr(), out.len(), length) }
+    }
+}
+
+impl ReturnedCalls for Library {
+    #[inline(always)]
+    fn returned(&self, sent: &mut ffi::Header, reply: &mut ffi::Header, landed: &mut ffi::Landed) -> u32 {
+        unsafe { ffi::eos_returned(&raw mut *sent, &raw mut *reply, landed) }
+    }
+
+    #[inline(always)]
+    fn returned_itself(&self, both: &mut ffi::Header, landed: &mut ffi::Landed) -> u32 {
+        let both = &raw mut *both;
+        unsafe { ffi::eos_returned(both, both, landed) }
     }
 }

@@ -1,9 +1,10 @@
-//! The reference: the calls once more, straight from document 01; clear rather than fast, and
-//! independent of the library.
+//! The reference: the calls once more, straight from documents 01 and 02; clear rather than fast,
+//! and independent of the library.
 
 pub mod assembly;
 pub mod header;
 pub mod reply;
+pub mod returned;
 pub mod setup;
 
 /// Puts bytes at the front of a buffer: their length, or 16 if they do not fit.

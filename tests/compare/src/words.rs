@@ -18,6 +18,7 @@ unsafe impl Words for ffi::Header {}
 unsafe impl Words for ffi::Setup {}
 unsafe impl Words for ffi::Agreement {}
 unsafe impl Words for ffi::State {}
+unsafe impl Words for ffi::Landed {}
 
 pub fn bytes<T: Words>(value: &T) -> &[u8] {
     unsafe { std::slice::from_raw_parts(std::ptr::from_ref(value).cast(), size_of::<T>()) }

@@ -1,9 +1,10 @@
-//! Wrong variants: the plain calls, and for the reassembly a third one, with one mistake put in. The
-//! families must find each.
+//! Wrong variants: the plain calls, or for the reassembly and for what was landed third ones, with one
+//! mistake put in. The families must find each.
 
 mod assembly;
 mod header;
 mod reply;
+mod returned;
 mod setup;
 
 use crate::cases;
@@ -33,6 +34,7 @@ enum Wrong {
     Piece(assembly::Mistake),
     /// Made by the asking for the message alone.
     Message(assembly::Mistake),
+    Returned(returned::Mistake),
 }
 
 /// Stores a word behind what was lent; the guard is there.
@@ -66,4 +68,5 @@ fn without_a_mistake_all_agree() {
     cases::setup::run(&mut check, rng, 2_000).unwrap();
     cases::reply::run(&mut check, rng, 2_000).unwrap();
     cases::assembly::run(&mut check, &mut Rng(6), 2_000).unwrap();
+    cases::returned::run(&mut check, rng, 2_000).unwrap();
 }

@@ -8,6 +8,7 @@ compile_error!("set EOS_LIB_DIR to the folder that holds libeoswynnor.a");
 use compare::calls::{AssemblyCalls, Calls};
 use compare::cases::assembly::Frame;
 use compare::cases::header::{c2, full, reads16};
+use compare::cases::returned::{full_pair, write1};
 use compare::cases::setup::C10;
 use compare::convert::flatten;
 use compare::library::Library;
@@ -15,14 +16,14 @@ use compare::plain::Plain;
 use compare::reference::header::{encode, Kind};
 use compare::rng::Rng;
 use compare::words::Words;
-use eoswynnor::ffi::{Agreement, Header, Setup, State};
+use eoswynnor::ffi::{Agreement, Header, Landed, Setup, State};
 use std::hint::black_box;
 use std::ops::Range;
 use std::time::Instant;
 
 const RUNS: usize = 21;
 
-const ROWS: [(&str, &str); 26] = [
+const ROWS: [(&str, &str); 28] = [
     ("read", "c2"),
     ("read", "reads16"),
     ("read", "full"),
@@ -49,6 +50,8 @@ const ROWS: [(&str, &str); 26] = [
     ("message", "chunks16"),
     ("fill", "chunks1"),
     ("fill", "chunks16"),
+    ("returned", "write1"),
+    ("returned", "full"),
 ];
 
 const MESSAGE: usize = 1 << 20;
@@ -60,8 +63,9 @@ const BASE: usize = 64;
 const CLIENT: Setup = Setup { remote_invalidation: 1, send: 4096, receive: 8192 };
 const SERVER: Setup = Setup { remote_invalidation: 1, send: 262_144, receive: 3072 };
 
-/// A frame, its header where it has one, the number for an error reply, and for the reassembly a
-/// frame to be started and a message to be filled with the length of a piece.
+/// A frame, its header where it has one, the number for an error reply, for the reassembly a frame
+/// to be started and a message to be filled with the length of a piece, and a header sent with its
+/// reply.
 struct Input {
     frame: Vec<u8>,
     flat: Header,
@@ -69,6 +73,7 @@ struct Input {
     start: Vec<u8>,
     filling: Filling,
     piece: usize,
+    pair: [Header; 2],
 }
 
 fn input(name: &str) -> Input {
@@ -103,7 +108,8 @@ fn input(name: &str) -> Input {
         "4k" | "4k16" => 4096,
         _ => 0,
     };
-    Input { frame, flat: flatten(&header), number, start, filling, piece }
+    let pair = if name == "full" { full_pair() } else { write1() };
+    Input { frame, flat: flatten(&header), number, start, filling, piece, pair }
 }
 
 /// A message of 1 MiB in so many chunks of equal length, started, with the bytes to be pulled.
@@ -162,11 +168,11 @@ fn repeat<T>(count: u64, mut call: impl FnMut() -> T) {
 
 /// Each maker is lent the same.
 fn calls_of<C: Calls>(maker: &C, call: &str, input: &mut Input, count: u64) {
-    let Input { frame, flat, number, .. } = input;
+    let Input { frame, flat, number, pair: [sent, reply], .. } = input;
     let (mut out, mut length, mut header) = ([0; 1024], 0, Header::ZERO);
     let (mut data, mut setup, mut present) = (C10, Setup::default(), 0);
     let (mut client, mut server) = (CLIENT, SERVER);
-    let (mut agreement, mut credit) = (Agreement::default(), 0);
+    let (mut agreement, mut credit, mut landed) = (Agreement::default(), 0, Landed::ZERO);
     match call {
         "read" => repeat(count, || maker.read_header(black_box(frame), black_box(&mut header))),
         "write" => repeat(count, || {
@@ -185,6 +191,9 @@ fn calls_of<C: Calls>(maker: &C, call: &str, input: &mut Input, count: u64) {
         "error-reply" => repeat(count, || {
             let (number, limit) = (black_box(*number), black_box(32));
             maker.error_reply(black_box(frame), number, limit, black_box(&mut out), black_box(&mut length))
+        }),
+        "returned" => repeat(count, || {
+            maker.returned(black_box(&mut *sent), black_box(&mut *reply), black_box(&mut landed))
         }),
         _ => assembly_calls_of(maker, call, input, count),
     }

@@ -14,7 +14,7 @@ impl Rng {
         Segment { handle: self.word(), length: self.word(), offset }
     }
 
-    fn segments(&mut self, count: usize) -> Vec<Segment> {
+    pub(super) fn segments(&mut self, count: usize) -> Vec<Segment> {
         (0..count).map(|_| self.segment()).collect()
     }
 
@@ -26,7 +26,13 @@ impl Rng {
         positions.into_iter().map(|position| ReadSegment { position, target: self.segment() }).collect()
     }
 
-    fn header(&mut self, kind: Kind, reads: usize, counts: &[usize], reply: Option<usize>) -> Header {
+    pub(super) fn header(
+        &mut self,
+        kind: Kind,
+        reads: usize,
+        counts: &[usize],
+        reply: Option<usize>,
+    ) -> Header {
         Header {
             xid: self.word(),
             credit: self.word(),
@@ -53,7 +59,7 @@ impl Rng {
         self.header(kind, reads, &counts, reply)
     }
 
-    fn valid(&mut self) -> Header {
+    pub(super) fn valid(&mut self) -> Header {
         let kind = match self.below(5) {
             0 => return self.error(),
             1 => Kind::Nomsg,
@@ -100,8 +106,8 @@ impl Rng {
         own
     }
 
-    /// The flat header with noise in every unused place and reserved word, which the writer must ignore.
-    fn noisy(&mut self, header: &Header) -> ffi::Header {
+    /// The flat header with noise in every unused place and reserved word, which must be ignored.
+    pub(super) fn noisy(&mut self, header: &Header) -> ffi::Header {
         let mut flat = flatten(header);
         for place in &mut flat.reads[header.reads.len()..] {
             *place = ReadSegment { position: self.word(), target: self.segment() }.into();
@@ -397,6 +403,20 @@ const FAULTS: [fn(&mut ffi::Header); 27] = [
     |h| h.kind = 4,
 ];
 
+pub(super) const COUNTED: usize = 9;
+
+/// One of the fields that a header is judged by before its entries.
+pub(super) fn counted(flat: &mut ffi::Header, field: usize) -> &mut u32 {
+    match field {
+        0 => &mut flat.read_count,
+        1 => &mut flat.write_chunks,
+        2..=5 => &mut flat.write_counts[field - 2],
+        6 => &mut flat.reply_count,
+        7 => &mut flat.reply_present,
+        _ => &mut flat.kind,
+    }
+}
+
 fn faulty_headers<C: Calls>(check: &mut Checker<C>, rng: &mut Rng) -> Outcome {
     let bases: Vec<ffi::Header> = bases(rng)[..16].iter().map(|header| rng.noisy(header)).collect();
     check.family("write every room");
@@ -414,16 +434,9 @@ fn faulty_headers<C: Calls>(check: &mut Checker<C>, rng: &mut Rng) -> Outcome {
     }
     check.family("write any counts");
     for edge in edges() {
-        for (base, field) in bases.iter().flat_map(|base| (0..9).map(move |field| (base, field))) {
+        for (base, field) in bases.iter().flat_map(|base| (0..COUNTED).map(move |field| (base, field))) {
             let mut flat = *base;
-            *match field {
-                0 => &mut flat.read_count,
-                1 => &mut flat.write_chunks,
-                2..=5 => &mut flat.write_counts[field - 2],
-                6 => &mut flat.reply_count,
-                7 => &mut flat.reply_present,
-                _ => &mut flat.kind,
-            } = edge;
+            *counted(&mut flat, field) = edge;
             check.write(&flat, 1100)?;
         }
         for other in edges() {

@@ -16,10 +16,11 @@ pub enum Call {
     Start,
     Piece,
     Message,
+    Returned,
 }
 
 /// Each call's name and the numbers the families must draw from it.
-const CALLS: [(&str, &[u32]); 11] = [
+const CALLS: [(&str, &[u32]); 12] = [
     ("read", &[0, 1, 2, 3, 4, 5, 6, 7, 8, 9, 10, 11]),
     ("write", &[0, 7, 8, 9, 12, 16, 20]),
     ("setup read", &[0]),
@@ -31,6 +32,7 @@ const CALLS: [(&str, &[u32]); 11] = [
     ("start", &[0, 1, 2, 3, 4, 5, 6, 7, 8, 9, 10, 11, 12, 13, 14, 15, 16]),
     ("piece", &[0, 17, 18]),
     ("message", &[0, 17, 19]),
+    ("returned", &[0, 7, 20, 26]),
 ];
 
 /// Answers that number 0 does not tell apart; each must be seen too.
@@ -49,9 +51,16 @@ pub enum Form {
     EmptyPieceAtEnd,
     RefusalBetween,
     CutsCompared,
+    MsgWithoutReplyChunk,
+    MsgWithReplyChunk,
+    NomsgLanded,
+    PartLanded,
+    AllLanded,
+    LandedAbove32Bits,
+    OneHeaderAsBoth,
 }
 
-const FORMS: [&str; 13] = [
+const FORMS: [&str; 20] = [
     "setup data",
     "no setup data",
     "no reply",
@@ -65,6 +74,13 @@ const FORMS: [&str; 13] = [
     "empty piece at the end",
     "refusal before the end",
     "two cuts compared",
+    "reply chunk missing in MSG",
+    "reply chunk back in MSG",
+    "reply chunk landed in NOMSG",
+    "chunk landed in part",
+    "32 segments landed in full",
+    "more landed than 32 bits",
+    "one header as both",
 ];
 
 /// What the implementation answered so far.

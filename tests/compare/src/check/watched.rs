@@ -85,4 +85,17 @@ impl<C: Calls> Watched<C> {
     ) -> Number {
         state.only_read(|state| out.only_read(|out| self.0.message(state, out, length.lent())))?
     }
+
+    pub fn returned(
+        &self,
+        sent: &mut Place<ffi::Header>,
+        reply: &mut Place<ffi::Header>,
+        landed: &mut Place<ffi::Landed>,
+    ) -> Number {
+        sent.only_read(|sent| reply.only_read(|reply| self.0.returned(sent, reply, landed.lent())))?
+    }
+
+    pub fn returned_itself(&self, both: &mut Place<ffi::Header>, landed: &mut Place<ffi::Landed>) -> Number {
+        both.only_read(|both| self.0.returned_itself(both, landed.lent()))
+    }
 }

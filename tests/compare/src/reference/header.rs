@@ -225,19 +225,23 @@ pub fn encode(header: &Header) -> Vec<u8> {
     bytes
 }
 
+/// The writer's 7.
+pub fn over_limit(header: &Header) -> bool {
+    let total: usize = header.writes.iter().map(Vec::len).sum();
+    header.reads.len() > MAX_READS
+        || header.writes.len() > MAX_WRITE_CHUNKS
+        || total > MAX_WRITE_SEGMENTS
+        || header.reply.segments.len() > MAX_REPLY_SEGMENTS
+        || (!header.reply.present && !header.reply.segments.is_empty())
+}
+
 /// The number a header to be written gets before its length is looked at.
 fn refusal(header: &Header) -> Option<u32> {
     let any_entry = !header.reads.is_empty() || !header.writes.is_empty();
     if matches!(header.kind, Kind::Error(_)) && (any_entry || header.reply.present) {
         return Some(12);
     }
-    let total: usize = header.writes.iter().map(Vec::len).sum();
-    if header.reads.len() > MAX_READS
-        || header.writes.len() > MAX_WRITE_CHUNKS
-        || total > MAX_WRITE_SEGMENTS
-        || header.reply.segments.len() > MAX_REPLY_SEGMENTS
-        || (!header.reply.present && !header.reply.segments.is_empty())
-    {
+    if over_limit(header) {
         return Some(7);
     }
     let mut before = 0;
