@@ -1,5 +1,6 @@
 /*
- * Eoswynnor: a proved receiver for RPC over RDMA version 1 (RFC 8166) with the connection setup data of RFC 8797.
+ * Eoswynnor: proved calls for RPC over RDMA version 1 (RFC 8166) with the connection setup data of RFC 8797. For a server:
+ * the receiver of calls. For a client: what a reply says was put into the chunks that were sent.
  * C99 and C++, x86-64 System V alone. Link with -leoswynnor; the library needs memcpy, memmove and memset, keeps
  * nothing between calls, takes no memory and may be called from any thread.
  *
@@ -16,7 +17,7 @@
  * it makes where the caller says. A refused call changes nothing that was lent: no byte, no struct, no number. No struct
  * has holes. A reserved word is zero in what a call makes and ignored in what it is given.
  *
- * The way of a call:
+ * The way of a call, for a server:
  *
  *     struct eos_state state;
  *     size_t length;
@@ -31,6 +32,18 @@
  * Read segments with the same position are one chunk: their bytes joined, then zeros up to a multiple of 4. The base is the
  * inline payload of MSG, or the chunk at position 0 of NOMSG. A position counts in the finished message, with the chunks
  * before it and their padding; the base fills the places that the chunks leave.
+ *
+ * The way of a reply, for a client:
+ *
+ *     struct eos_header reply;
+ *     struct eos_landed landed;
+ *     number = eos_write_header(&sent, frame, frame_len, &length): send the frame, and keep sent as it is
+ *     number = eos_read_header(reply_frame, reply_frame_len, &reply): with an ERROR kind the server refused the call
+ *     if (eos_returned(&sent, &reply, &landed) == EOS_DONE)
+ *         landed tells how many bytes the reply says are in each write chunk and in the reply chunk
+ *
+ * A client with several calls under way finds the header that it kept by the xid of the reply. Chunks are filled from the
+ * front: the bytes landed are the first ones of a chunk, its segments joined.
  */
 #ifndef EOSWYNNOR_H
 #define EOSWYNNOR_H
@@ -68,8 +81,8 @@ enum eos_number {
     EOS_DONE_RECEIVED = 4,       /* procedure is 3 */
     EOS_ENDS_INSIDE_FIELD = 5,   /* frame ends inside a field that must be there */
     EOS_BAD_MARKER = 6,          /* a marker word above 1 */
-    EOS_OVER_LIMIT = 7,          /* an entry or count that goes over a limit above; in writing also segments in a reply
-                                    chunk that is not present */
+    EOS_OVER_LIMIT = 7,          /* an entry or count that goes over a limit above; in writing and in eos_returned also
+                                    segments in a reply chunk that is not present */
     EOS_POSITION_FALLS = 8,      /* a read position below the one before it */
     EOS_POSITION_UNALIGNED = 9,  /* a read position that is no multiple of 4 */
     EOS_OTHER_ERROR_CODE = 10,   /* error code neither 1 nor 2 */
@@ -85,8 +98,10 @@ enum eos_number {
     EOS_PIECE_LONG = 18,         /* piece longer than what is still to be pulled */
     EOS_BYTES_MISSING = 19,      /* message asked for before all bytes are in */
     EOS_BAD_ARGUMENT = 20,       /* credit limit 0, a size out of rule, an answer number above 21; a kind or flag that
-                                    does not exist */
-    EOS_HEADER_LONG = 21         /* a header to be written is longer than 1,024 bytes */
+                                    does not exist, in a header or in setup data */
+    EOS_HEADER_LONG = 21,        /* a header to be written is longer than 1,024 bytes */
+    EOS_REPLY_MISMATCH = 26      /* a reply that cannot answer the header that was sent; the conditions are listed with
+                                    eos_returned */
 };
 
 /* Kinds of a header; a state has one of the first two. */
@@ -97,7 +112,7 @@ enum eos_kind {
     EOS_ERROR_CHUNK = 3
 };
 
-/* Memory that the other side registered. */
+/* Memory that one side registered for the other. */
 struct eos_segment {
     uint32_t handle;
     uint32_t length;
@@ -111,7 +126,8 @@ struct eos_read_segment {
     struct eos_segment target;
 };
 
-/* A transport header. Places behind a count are unused: zero in a header that was read, ignored in one to be written. */
+/* A transport header. Places behind a count are unused: zero in a header that was read, ignored in one to be written or
+ * compared. */
 struct eos_header {
     struct eos_read_segment reads[EOS_MAX_READ_SEGMENTS];
     struct eos_segment writes[EOS_MAX_WRITE_SEGMENTS]; /* of all write chunks, one behind the other */
@@ -123,7 +139,7 @@ struct eos_header {
     uint32_t reply_count;
     uint32_t kind;                                 /* enum eos_kind */
     uint32_t low;                                  /* low and high of EOS_ERROR_VERSION; else 0 in a header that was
-                                                      read, ignored in one to be written */
+                                                      read, ignored in one to be written or compared */
     uint32_t high;
     uint32_t xid;
     uint32_t credit;
@@ -160,6 +176,12 @@ struct eos_state {
     uint32_t kind;                /* EOS_MSG or EOS_NOMSG */
 };
 
+/* How many bytes a reply says were put into each chunk that was sent. */
+struct eos_landed {
+    uint64_t writes[EOS_MAX_WRITE_CHUNKS]; /* 0 behind the last write chunk */
+    uint64_t reply;                        /* 0 where no reply chunk came back */
+};
+
 /* Reads the header of a frame. Numbers 1 to 4, then 5 to 10 from left to right, then 11. */
 uint32_t eos_read_header(const uint8_t *frame, size_t frame_len, struct eos_header *header);
 
@@ -186,9 +208,10 @@ uint32_t eos_agree(const struct eos_setup *client, const struct eos_setup *serve
 uint32_t eos_grant(uint32_t asked, uint32_t limit, uint32_t *credit);
 
 /* Writes the reply to a frame that was answered with a number, which is the caller's to hand in as it was given: 2 gets
- * a version error (28 bytes), 3, 5 to 9 and 11 to 15 a chunk error (20 bytes), the others none. A frame under 16 bytes
- * or with an ERROR header gets none. Where there is none the number is 0 and the length 0: send nothing. The reply
- * carries the frame's xid and the grant for its credit word under limit, our credit limit. Numbers 20, then 16. */
+ * a version error (28 bytes), 3, 5 to 9 and 11 to 15 a chunk error (20 bytes), the others up to 21 none. A frame under 16
+ * bytes or with an ERROR header gets none. Where there is none the number is 0 and the length 0: send nothing. The reply
+ * carries the frame's xid and the grant for its credit word under limit, our credit limit. Numbers 20 (for 26 too, which
+ * is above 21), then 16. */
 uint32_t eos_error_reply(const uint8_t *frame, size_t frame_len, uint32_t number, uint32_t limit, uint8_t *out,
                          size_t out_len, size_t *length);
 
@@ -205,6 +228,23 @@ uint32_t eos_take_piece(struct eos_state *state, const uint8_t *piece, size_t pi
 
 /* Asks for the message, once all bytes are in: it is the first length bytes of the buffer. Numbers 17, 19. */
 uint32_t eos_message(const struct eos_state *state, const uint8_t *out, size_t out_len, size_t *length);
+
+/* Compares the header that was sent with the reply's header, and stores how many bytes landed in each chunk. Both headers
+ * are only read and may be the same. Credits, unused places, reserved words and what the sent read segments say are
+ * ignored. Number 20 for a kind or flag of either header that does not exist; then 7 for either header, ERROR or not; then
+ * 26, which is given where
+ * - the xids differ;
+ * - the reply has read segments;
+ * - either header is an ERROR;
+ * - the numbers of write chunks differ, or the numbers of segments in one, or in a reply chunk that both have;
+ * - a handle or an offset differs;
+ * - a length is above the one that was sent;
+ * - a segment is not empty though one before it in its chunk is not full;
+ * - a NOMSG reply lacks the reply chunk;
+ * - a reply chunk comes back that was not sent, or, in MSG, with any length other than 0.
+ * In MSG the reply chunk may be missing. An ERROR reply gets 26 too: look at its kind first. After a refusal nothing that
+ * lies in the chunks may be used. */
+uint32_t eos_returned(const struct eos_header *sent, const struct eos_header *reply, struct eos_landed *landed);
 
 #ifdef __cplusplus
 }

@@ -2,11 +2,13 @@
 
 use std::fmt;
 
-/// The number of a refusal, 1 to 21.
+/// The number of a refusal, 1 to 21 or 26.
 #[derive(Clone, Copy, Debug, PartialEq, Eq)]
 pub struct Refusal(pub u32);
 
-const TEXTS: [&str; 22] = [
+const NO_NUMBER: &str = "no answer number";
+
+const TEXTS: [&str; 27] = [
     "done",
     "frame under 16 bytes",
     "version is not 1",
@@ -29,11 +31,17 @@ const TEXTS: [&str; 22] = [
     "message asked for before all bytes are in",
     "bad argument: credit limit 0, a size out of rule, an answer number above 21",
     "a header to be written is longer than 1,024 bytes",
+    // 22 to 25: no call answers these.
+    NO_NUMBER,
+    NO_NUMBER,
+    NO_NUMBER,
+    NO_NUMBER,
+    "a reply that cannot answer the header that was sent",
 ];
 
 impl fmt::Display for Refusal {
     fn fmt(&self, f: &mut fmt::Formatter) -> fmt::Result {
-        f.write_str(TEXTS.get(self.0 as usize).unwrap_or(&"no answer number"))
+        f.write_str(TEXTS.get(self.0 as usize).unwrap_or(&NO_NUMBER))
     }
 }
 

@@ -76,7 +76,7 @@ impl Header {
     }
 
     /// Counts are handed on as they are, so that the library judges a list that is too long; its entries are not looked at.
-    fn flat(&self) -> ffi::Header {
+    pub(crate) fn flat(&self) -> ffi::Header {
         let (kind, low, high) = match self.kind {
             Kind::Msg => (ffi::MSG, 0, 0),
             Kind::Nomsg => (ffi::NOMSG, 0, 0),

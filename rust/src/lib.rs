@@ -15,6 +15,8 @@ mod header;
 #[cfg(feature = "link")]
 mod reply;
 #[cfg(feature = "link")]
+mod returned;
+#[cfg(feature = "link")]
 mod setup;
 
 #[cfg(feature = "link")]
@@ -23,5 +25,6 @@ pub use {
     assembly::{Assembly, MAX_MESSAGE},
     header::{payload, Header, Kind, ReadSegment, Segment, MAX_HEADER},
     reply::{error_reply, grant, MAX_REPLY},
+    returned::Landed,
     setup::{Agreement, Setup, SETUP_BYTES},
 };

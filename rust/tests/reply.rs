@@ -12,6 +12,7 @@ fn replies_and_refusals() {
     assert_eq!(error_reply(&c6(), Refusal(2), 32, &mut room).map(<[u8]>::len), Ok(28));
     assert_eq!(error_reply(&c6(), Refusal(19), 32, &mut room), Ok(&[][..]));
     assert_eq!(error_reply(&c6(), Refusal(2), 32, &mut room[..27]), Err(Refusal(16)));
+    assert_eq!(error_reply(&c6(), Refusal(26), 32, &mut room), Err(Refusal(20)));
 }
 
 #[test]
@@ -22,4 +23,9 @@ fn grants() {
 #[test]
 fn a_refusal_has_its_text() {
     assert_eq!(Refusal(14).to_string(), "a chunk's position overlaps or lies past the base");
+    assert_eq!(Refusal(21).to_string(), "a header to be written is longer than 1,024 bytes");
+    assert_eq!(Refusal(26).to_string(), "a reply that cannot answer the header that was sent");
+    for number in [22, 23, 24, 25, 27] {
+        assert_eq!(Refusal(number).to_string(), "no answer number");
+    }
 }

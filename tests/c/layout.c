@@ -54,3 +54,7 @@ AT(eos_state, buffer, 392);
 AT(eos_state, taken, 400);
 AT(eos_state, read_count, 408);
 AT(eos_state, kind, 412);
+
+SIZE(eos_landed, 40);
+AT(eos_landed, writes, 0);
+AT(eos_landed, reply, 32);

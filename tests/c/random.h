@@ -148,7 +148,7 @@ static inline void unchanged(const void *lent, size_t length, uint8_t *was)
 
 static inline void answered(uint32_t number, uint32_t numbers)
 {
-    CHECK(number <= EOS_HEADER_LONG && (numbers & BIT(number)) != 0);
+    CHECK(number <= EOS_REPLY_MISMATCH && (numbers & BIT(number)) != 0);
     seen |= BIT(number);
 }
 

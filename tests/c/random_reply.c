@@ -11,6 +11,7 @@ static void reply_one(struct lent frame, uint32_t number)
     uint32_t done = eos_error_reply(frame.bytes, frame.length, number, limit, out.bytes, out.length, &length);
     unchanged(frame.bytes, frame.length, lent);
     length = stored(done, ROOM_NUMBERS, before, length);
+    CHECK((done == EOS_BAD_ARGUMENT) == (number > EOS_HEADER_LONG || limit == 0));
     CHECK(length <= out.length && same_behind(out, was, length));
     CHECK(length == 0 || length == 20 || length == EOS_MAX_REPLY);
     if (length > 0) {
@@ -46,7 +47,7 @@ static void one_round(void)
 {
     struct lent frame = some_frame();
     reply_one(frame, start_number(frame));
-    reply_one(frame, below(24));
+    reply_one(frame, below(EOS_REPLY_MISMATCH + 2));
     give_back(frame);
     grant_one();
 }

@@ -1,16 +1,17 @@
-/* Every call on worked examples C1 to C13, as C sees them. */
+/* Every call on worked examples C1 to C13 and on replies worked by hand, as C sees them. */
 #include <eoswynnor.h>
 #include <stdio.h>
 #include <string.h>
 
 static int failures;
 
-#define EXPECT(claim)                                                          \
-    do {                                                                       \
-        if (!(claim)) {                                                        \
-            failures++;                                                        \
-            fprintf(stderr, "%s:%d: not so: %s\n", __FILE__, __LINE__, #claim); \
-        }                                                                      \
+#define EXPECT(claim) EXPECT_OF(#claim, claim)
+#define EXPECT_OF(name, claim)                                               \
+    do {                                                                     \
+        if (!(claim)) {                                                      \
+            failures++;                                                      \
+            fprintf(stderr, "%s:%d: not so: %s\n", __FILE__, __LINE__, name); \
+        }                                                                    \
     } while (0)
 
 /* Words 2a, 1, 20, 0, 0, 0, 0. */
@@ -62,6 +63,7 @@ static void replying(void)
     memset(out, 0xee, sizeof out);
     EXPECT(eos_error_reply(frame, sizeof frame, EOS_OTHER_VERSION, 32, out, 27, &length) == EOS_BUFFER_SHORT);
     EXPECT(eos_error_reply(frame, sizeof frame, 22, 32, out, sizeof out, &length) == EOS_BAD_ARGUMENT);
+    EXPECT(eos_error_reply(frame, sizeof frame, EOS_REPLY_MISMATCH, 32, out, sizeof out, &length) == EOS_BAD_ARGUMENT);
     EXPECT(length == 99 && out[0] == 0xee);
     EXPECT(eos_error_reply(frame, sizeof frame, EOS_OTHER_VERSION, 32, out, sizeof out, &length) == EOS_DONE);
     EXPECT(length == 28 && memcmp(out, version_reply, 28) == 0 && out[28] == 0xee && out[29] == 0xee);
@@ -171,6 +173,107 @@ static void reassembling(void)
     EXPECT(memcmp(out, message, sizeof message) == 0 && out[20] == 0xee && s.reads[0].reserved == 7);
 }
 
+/* Lengths of up to three segments of the write chunks, one behind the other, and what landed in each of two chunks. */
+static const struct worked_writes {
+    const char *name;
+    uint32_t counts[2], sent[3], back[3], number;
+    uint64_t landed[2];
+} worked_writes[] = {
+    {"an empty segment is full", {3, 0}, {4, 0, 4}, {4, 0, 2}, EOS_DONE, {6, 0}},
+    {"a gap", {3, 0}, {4, 4, 4}, {4, 0, 1}, EOS_REPLY_MISMATCH, {0, 0}},
+    {"nothing landed", {2, 0}, {4, 4}, {0, 0}, EOS_DONE, {0, 0}},
+    {"each chunk for itself", {2, 1}, {4, 4, 4}, {2, 0, 3}, EOS_DONE, {2, 3}},
+    {"a gap before an empty segment", {3, 0}, {4, 0, 4}, {2, 0, 1}, EOS_REPLY_MISMATCH, {0, 0}},
+    {"one byte too many", {1, 0}, {4}, {5}, EOS_REPLY_MISMATCH, {0, 0}},
+};
+
+/* Lengths of the one segment of the reply chunk; NONE where there is no reply chunk. */
+enum { NONE = 99 };
+static const struct worked_reply {
+    const char *name;
+    uint32_t kind, sent, back, number;
+    uint64_t landed;
+} worked_replies[] = {
+    {"missing in MSG", EOS_MSG, 4, NONE, EOS_DONE, 0},
+    {"empty in MSG", EOS_MSG, 4, 0, EOS_DONE, 0},
+    {"filled in MSG", EOS_MSG, 4, 1, EOS_REPLY_MISMATCH, 0},
+    {"not sent, in MSG", EOS_MSG, NONE, 0, EOS_REPLY_MISMATCH, 0},
+    {"none in MSG", EOS_MSG, NONE, NONE, EOS_DONE, 0},
+    {"missing in NOMSG", EOS_NOMSG, 4, NONE, EOS_REPLY_MISMATCH, 0},
+    {"filled in NOMSG", EOS_NOMSG, 4, 3, EOS_DONE, 3},
+    {"not sent, in NOMSG", EOS_NOMSG, NONE, 0, EOS_REPLY_MISMATCH, 0},
+    {"none in NOMSG", EOS_NOMSG, NONE, NONE, EOS_REPLY_MISMATCH, 0},
+};
+
+static struct eos_header with_reply_chunk(uint32_t kind, uint32_t length)
+{
+    struct eos_header h = {.kind = kind, .xid = 0x2a, .credit = 9};
+    if (length != NONE) {
+        h.reply_present = 1;
+        h.reply_count = 1;
+        h.reply[0] = (struct eos_segment){3, length, 1};
+    }
+    return h;
+}
+
+/* Whether the call answers this number and stores these bytes; with a refusal, whether it stores nothing. */
+static int returns(const struct eos_header *sent, const struct eos_header *reply, uint32_t number,
+                   const struct eos_landed *bytes)
+{
+    struct eos_landed landed, was;
+    memset(&landed, 0xee, sizeof landed);
+    was = landed;
+    return eos_returned(sent, reply, &landed) == number &&
+           memcmp(&landed, number == EOS_DONE ? bytes : &was, sizeof was) == 0;
+}
+
+static void returning(void)
+{
+    struct eos_landed none = {{0, 0, 0, 0}, 0};
+    for (size_t i = 0; i < sizeof worked_writes / sizeof *worked_writes; i++) {
+        const struct worked_writes *w = &worked_writes[i];
+        struct eos_header sent = {.xid = 0x2a, .write_chunks = 2, .write_counts = {w->counts[0], w->counts[1]}};
+        struct eos_header reply = sent;
+        struct eos_landed landed = {{w->landed[0], w->landed[1], 0, 0}, 0};
+        for (uint32_t j = 0; j < 3; j++) {
+            sent.writes[j] = (struct eos_segment){j, w->sent[j], j};
+            reply.writes[j] = (struct eos_segment){j, w->back[j], j};
+        }
+        EXPECT_OF(w->name, returns(&sent, &reply, w->number, &landed));
+    }
+    for (size_t i = 0; i < sizeof worked_replies / sizeof *worked_replies; i++) {
+        const struct worked_reply *w = &worked_replies[i];
+        struct eos_header sent = with_reply_chunk(EOS_MSG, w->sent), reply = with_reply_chunk(w->kind, w->back);
+        struct eos_landed landed = {{0, 0, 0, 0}, w->landed};
+        EXPECT_OF(w->name, returns(&sent, &reply, w->number, &landed));
+    }
+
+    /* Sixteen of the longest segments: their sum has more than 32 bits. What is only read may be the same. */
+    struct eos_header h = {.kind = EOS_NOMSG, .write_chunks = 1, .write_counts = {16}, .reply_present = 1};
+    struct eos_landed most = {{0xffffffff0, 0, 0, 0}, 0xffffffff0};
+    h.reply_count = 16;
+    for (uint32_t i = 0; i < 16; i++)
+        h.writes[i].length = h.reply[i].length = UINT32_MAX;
+    EXPECT(returns(&h, &h, EOS_DONE, &most));
+
+    /* 20 comes before 7, and 7 before 26, whichever header it is and ERROR or not. */
+    struct eos_header sent = with_reply_chunk(EOS_MSG, 0), other = sent, wrong;
+    EXPECT(returns(&sent, &other, EOS_DONE, &none));
+    other.xid++;
+    EXPECT(returns(&sent, &other, EOS_REPLY_MISMATCH, &none));
+    wrong = other;
+    wrong.reply_present = 0;
+    EXPECT(returns(&sent, &wrong, EOS_OVER_LIMIT, &none) && returns(&wrong, &sent, EOS_OVER_LIMIT, &none));
+    wrong.kind = EOS_ERROR_CHUNK;
+    EXPECT(returns(&sent, &wrong, EOS_OVER_LIMIT, &none) && returns(&wrong, &sent, EOS_OVER_LIMIT, &none));
+    wrong.kind = 4;
+    EXPECT(returns(&sent, &wrong, EOS_BAD_ARGUMENT, &none) && returns(&wrong, &sent, EOS_BAD_ARGUMENT, &none));
+    wrong.kind = EOS_MSG;
+    wrong.reply_present = 2;
+    wrong.reply_count = EOS_MAX_REPLY_SEGMENTS + 1;
+    EXPECT(returns(&sent, &wrong, EOS_BAD_ARGUMENT, &none) && returns(&wrong, &sent, EOS_BAD_ARGUMENT, &none));
+}
+
 int main(void)
 {
     reading();
@@ -178,6 +281,7 @@ int main(void)
     writing();
     connecting();
     reassembling();
+    returning();
     if (failures == 0)
         printf("worked examples: as they must be\n");
     return failures != 0;
