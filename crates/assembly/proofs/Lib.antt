@@ -1,3 +1,4 @@
 pub mod StateChecks
 pub mod Pieces
 pub mod Kept
+pub mod Goes

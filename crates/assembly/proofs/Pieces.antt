@@ -12,34 +12,29 @@ use Rattle.answers.proofs.Checks.{both-hold, check-passed}
 use Rattle.chunk_lists.specs.Lists.{positionsNumber}
 use Rattle.layout.specs.Places.{scatter}
 use Rattle.layout.specs.Layout.{messageLength, anyAtZero, placeNumber}
-use Rattle.placing.specs.Internal.Sources.{sourcePlaces}
+use Rattle.placing.specs.Goes.{goes}
 use Rattle.assembly_state.specs.State.{State}
-use Rattle.assembly.specs.Assembly.{readsOf, chunksOf, pulledOf, canArise, fitsState, pieceNumber, pieceBuffer, messageNumber, messagePart, pieceWords}
-use Rattle.assembly.specs.Internal.StateCheck.{isNomsg, Fitting, pieceAnswer, messageAnswer}
-use Rattle.assembly.specs.declared.StateCheck.{StateCheck}
-use Rattle.assembly.specs.declared.PieceAnswer.{PieceAnswer}
+use Rattle.assembly.specs.Assembly.{readsOf, chunksOf, pulledOf, canArise, fitsState, pieceNumber, pulledBytesOf, pieceGoes, pieceAnswer, pieceBuffer, messageNumber, messagePart, pieceWords}
+use Rattle.assembly.specs.Internal.StateCheck.{placedPiece, messageAnswer}
+use Rattle.assembly.specs.declared.PlacedPiece.{PlacedPiece}
 use Rattle.wire.specs.Wire.{stored}
 use Rattle.wire.specs.Words.{numberWords}
 use Rattle.assembly_state.specs.Words.{stateIn, withTaken}
 use Rattle.layout.proofs.Passed.{place-passed}
 
--- The places that are filled are the pulled ones.
-pub known-places : (s : State) (room : ℕ) (r : StateCheck) (b : Bool) → Fitting s room r → b ≡ isNomsg (s .kind) → sourcePlaces b (s .base) (chunksOf s) ≡ pulledOf s
-known-places s room r b k e = rw e (sym (k .places))
-
 module _ (s : State) (piece out : List ℕ) where
-  pub take-unfit : fitsState s (length out) ≡ false → (record { taken = s .taken; number = 17 } ≡ pieceAnswer s (length out) (length piece)) × (out ≡ pieceBuffer s piece out)
-  unfolding pieceBuffer pieceNumber
+  pub take-unfit : fitsState s (length out) ≡ false → (record { taken = s .taken; number = 17; goes = 0 } ≡ placedPiece s (length out) (length piece)) × (out ≡ pieceBuffer s piece out)
+  unfolding pieceBuffer pieceNumber pieceGoes
   take-unfit f = simp f (refl, refl)
 
-  pub take-long : fitsState s (length out) ≡ true → length (pulledOf s) < s .taken + length piece → (record { taken = s .taken; number = 18 } ≡ pieceAnswer s (length out) (length piece)) × (out ≡ pieceBuffer s piece out)
-  unfolding pieceBuffer pieceNumber
+  pub take-long : fitsState s (length out) ≡ true → length (pulledOf s) < s .taken + length piece → (record { taken = s .taken; number = 18; goes = 0 } ≡ placedPiece s (length out) (length piece)) × (out ≡ pieceBuffer s piece out)
+  unfolding pieceBuffer pieceNumber pieceGoes
   take-long f h = simp (f, lt-leb (s .taken + length piece) (length (pulledOf s)) h) (refl, refl)
 
-  pub take-done : fitsState s (length out) ≡ true → s .taken + length piece ≤ length (pulledOf s) → (after : List ℕ) → after ≡ scatter (drop (s .taken) (pulledOf s)) piece out →
-      (record { taken = s .taken + length piece; number = 0 } ≡ pieceAnswer s (length out) (length piece)) × (after ≡ pieceBuffer s piece out)
-  unfolding pieceBuffer pieceNumber
-  take-done f h after e = simp (f, le-leb (s .taken + length piece) (length (pulledOf s)) h) (refl, e)
+  pub take-done : fitsState s (length out) ≡ true → s .taken + length piece ≤ length (pulledOf s) → (g : ℕ) → g ≡ goes (take (length piece) (drop (s .taken) (pulledBytesOf s))) → (after : List ℕ) → after ≡ scatter (drop (s .taken) (pulledOf s)) piece out →
+      (record { taken = s .taken + length piece; number = 0; goes = g } ≡ placedPiece s (length out) (length piece)) × (after ≡ pieceBuffer s piece out)
+  unfolding pieceBuffer pieceNumber pieceGoes
+  take-done f h g told after e = rw told (simp (f, le-leb (s .taken + length piece) (length (pulledOf s)) h) (refl, e))
 
 module _ (s : State) (room : ℕ) where
   within : messageNumber s room ≡ 0 → messageLength (s .base) (chunksOf s) ≤ room
@@ -85,17 +80,20 @@ message-part s out = by (eqb (messageNumber s (length out)) 0)
     by false = refl
 
 -- What a piece leaves of the words, from what it answers.
-module _ (w : List ℕ) (room size : ℕ) (t : PieceAnswer) (is : t ≡ pieceAnswer (stateIn w) room size) where
+module _ (w : List ℕ) (room size : ℕ) (t : PlacedPiece) (is : t ≡ placedPiece (stateIn w) room size) where
   number-is : t .number ≡ pieceNumber (stateIn w) room size
-  number-is = ap (λ (x : PieceAnswer). x .number) is
+  number-is = ap (λ (x : PlacedPiece). x .number) is
 
-  pub words-kept : (t .number ≡ 0 → ⊥) → (t .number ≡ pieceNumber (stateIn w) room size) × (w ≡ pieceWords w room size)
+  pub answer-is : record { number = t .number; goes = t .goes } ≡ pieceAnswer (stateIn w) room size
+  answer-is = rw is
+
+  pub words-kept : (t .number ≡ 0 → ⊥) → w ≡ pieceWords w room size
   unfolding pieceWords
-  words-kept n = (number-is, rw (ne-eqb (pieceNumber (stateIn w) room size) 0 (λ e. n (number-is ∙ e))))
+  words-kept n = rw (ne-eqb (pieceNumber (stateIn w) room size) 0 (λ e. n (number-is ∙ e)))
 
-  pub words-counted : t .number ≡ 0 → (after : List ℕ) → after ≡ stored w 100 (numberWords (t .taken)) → (0 ≡ pieceNumber (stateIn w) room size) × (after ≡ pieceWords w room size)
+  pub words-counted : t .number ≡ 0 → (after : List ℕ) → after ≡ stored w 100 (numberWords (t .taken)) → after ≡ pieceWords w room size
   unfolding pieceWords withTaken
   words-counted z after e =
       let zero-number : pieceNumber (stateIn w) room size ≡ 0 = sym number-is ∙ z in
-      let more : t .taken ≡ stateIn w .taken + size = ap (λ (x : PieceAnswer). x .taken) is ∙ rw zero-number in
-      (sym zero-number, e ∙ rw (more, zero-number))
+      let more : t .taken ≡ stateIn w .taken + size = ap (λ (x : PlacedPiece). x .taken) is ∙ rw zero-number in
+      e ∙ rw (more, zero-number)

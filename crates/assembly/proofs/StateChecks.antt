@@ -3,27 +3,25 @@
 use mathlib.Core.Path.{_≡_, refl, sym, ap, _∙_}
 use mathlib.Core.Bool.{Bool, true, false, _&&_}
 use mathlib.Core.List.{List}
-use Prim.Native.Nat.{ℕ, _+_, _≤_, _<_}
+use Prim.Native.Nat.{ℕ, _≤_, _<_}
 use native.Mathlib.Omega.{arith}
-use borrow.Author.Tests.{le-leb, lt-leb, eq-eqb, ne-eqb, not-true}
+use borrow.Author.Tests.{le-leb, lt-leb, eq-eqb, ne-eqb, eqb-true}
 use lib.ListN.{length}
+use lib.Dec.{eqb}
 use Rattle.wire.specs.declared.ReadSegment.{ReadSegment}
 use Rattle.chunk_lists.specs.Lists.{positionsNumber}
-use Rattle.header.specs.declared.Kind.{Kind}
-use Rattle.header.specs.declared.Kind.the-variants.{Msg, Nomsg, Error}
-use Rattle.layout.specs.Layout.{messageLength, kindFits, anyAtZero, zeroLength, otherChunks, baseLength, stands, placeNumber, pulledPlaces}
-use Rattle.layout.specs.Internal.Walks.{totalLength, sumsOf, layoutCheck}
-use Rattle.layout.specs.declared.Run.{Run}
+use Rattle.layout.specs.Layout.{messageLength, anyAtZero, zeroLength, baseLength, placeNumber}
+use Rattle.layout.specs.Internal.Walks.{sumsOf, readsCheck, layoutCheck}
 use Rattle.layout.specs.declared.Sums.{Sums}
+use Rattle.layout.specs.declared.ReadsCheck.the-variants.{Faulty}
 use Rattle.layout.specs.declared.LayoutCheck.{LayoutCheck}
 use Rattle.layout.specs.declared.LayoutCheck.the-variants.{Holds, Refused}
-use Rattle.layout.proofs.Summing.{none-at-zero, read-total}
-use Rattle.layout.proofs.Scatter.{length-places}
-use Rattle.placing.specs.Internal.Sources.{sourcePlaces}
-use Rattle.placing.proofs.Sources.{length-based}
+use Rattle.layout.proofs.ReadsWalk.{faulty-told}
+use Rattle.placing.specs.Internal.Sources.{BasePulled, readPlaces}
+use Rattle.placing.proofs.Segments.{pulled-read, base-pulled, read-length}
 use Rattle.assembly_state.specs.State.{State}
 use Rattle.assembly.specs.Assembly.{readsOf, chunksOf, pulledOf, canArise, fitsState}
-use Rattle.assembly.specs.Internal.StateCheck.{isNomsg, StateChecked}
+use Rattle.assembly.specs.Internal.StateCheck.{StateChecked}
 use Rattle.assembly.specs.declared.StateCheck.{StateCheck}
 use Rattle.layout.proofs.Passed.{Passed, place-passed, layout-holds, layout-refused}
 
@@ -38,30 +36,24 @@ and-false : (b : Bool) → (b && false) ≡ false
 and-false true = refl
 and-false false = refl
 
-pulled-places : (kind : Kind) (atZero : Bool) (base : ℕ) (cs : List Run) → kindFits kind atZero ≡ true → pulledPlaces kind base cs ≡ sourcePlaces (isNomsg kind) base cs
-unfolding pulledPlaces
-pulled-places Msg z base cs f = refl
-pulled-places Nomsg z base cs f = refl
-pulled-places (Error e) z base cs f = absurd (let n : _≡_ {A = ℕ} 0 1 = cc in omega arith)
-
--- All bytes of a read list are to be pulled.
-pulled-all : (kind : Kind) (base : ℕ) (reads : List ReadSegment) → kindFits kind (anyAtZero reads) ≡ true → stands base 0 0 (otherChunks reads) ≡ true → baseLength kind base reads ≡ base →
-    totalLength (otherChunks reads) + zeroLength reads ≡ length (pulledPlaces kind base (otherChunks reads))
-unfolding pulledPlaces
-pulled-all Msg base reads f e b =
-    let none = none-at-zero reads (not-true (anyAtZero reads) f) in
-    rw (length-places (otherChunks reads)) (omega arith)
-pulled-all Nomsg base reads f e b = rw (length-based base (otherChunks reads) e) (omega arith)
-pulled-all (Error x) base reads f e b = absurd (let n : _≡_ {A = ℕ} 0 1 = cc in omega arith)
-
 module _ (s : State) (room : ℕ) where
   pub too-many : 16 < s .reads .count → fitsState s room ≡ false
   unfolding canArise
   too-many h = simp (lt-leb _ _ h)
 
-  pub out-of-order : s .reads .count ≤ 16 → (positionsNumber 0 (readsOf s) 0 ≡ 0 → ⊥) → fitsState s room ≡ false
+  -- Positions out of order, or chunks that do not stand.
+  pub faulty-list : s .reads .count ≤ 16 → readsCheck (s .base) (readsOf s) ≡ Faulty → fitsState s room ≡ false
   unfolding canArise
-  out-of-order few h = simp (le-leb _ _ few, ne-eqb _ _ h)
+  faulty-list few e = by (eqb (positionsNumber 0 (readsOf s) 0) 0) refl
+    where
+      misplaced-number : positionsNumber 0 (readsOf s) 0 ≡ 0 → placeNumber (s .kind) (anyAtZero (readsOf s)) (s .base) (chunksOf s) (s .buffer) ≡ 0 → ⊥
+      misplaced-number rise z =
+          let t : true ≡ false = sym (place-passed (s .kind) (anyAtZero (readsOf s)) (s .base) (chunksOf s) (s .buffer) z .stand) ∙ faulty-told (s .base) (readsOf s) e rise in
+          (let n : _≡_ {A = ℕ} 0 1 = cc in omega arith)
+
+      by : (b : Bool) → eqb (positionsNumber 0 (readsOf s) 0) 0 ≡ b → fitsState s room ≡ false
+      by true p = simp (le-leb _ _ few, p, ne-eqb _ 0 (misplaced-number (eqb-true _ 0 p)))
+      by false p = simp (le-leb _ _ few, p)
 
   pub other-buffer : (s .buffer ≡ room → ⊥) → fitsState s room ≡ false
   other-buffer h = simp (ne-eqb _ _ h) (and-false (canArise s))
@@ -95,9 +87,15 @@ module _ (s : State) (room : ℕ) where
         other-base h = simp (le-leb _ _ few, eq-eqb _ _ rise, zero-number, ne-eqb _ _ (λ e. h (base-of ∙ e)))
 
         module _ (based : base ≡ s .base) where
+          pulls : BasePulled (s .base) (readsOf s)
+          pulls = base-pulled (s .kind) (s .base) (readsOf s) (passed .fits) (sym base-of ∙ based)
+
+          places-of : pulledOf s ≡ readPlaces (s .base) (readsOf s)
+          places-of = pulled-read (s .kind) (s .base) (readsOf s) (passed .fits)
+
+          -- All bytes of a read list are to be pulled.
           pulled-of : sums .«all_length» ≡ length (pulledOf s)
-          pulled-of =
-              ap (λ (x : Sums). x .«all_length») summed ∙ sym (read-total (readsOf s)) ∙ pulled-all (s .kind) (s .base) (readsOf s) (passed .fits) (passed .stand) (sym base-of ∙ based)
+          pulled-of = ap (λ (x : Sums). x .«all_length») summed ∙ sym (read-length (s .base) (readsOf s) (passed .stand) pulls) ∙ ap length (sym places-of)
 
           pub over-taken : sums .«all_length» < s .taken → fitsState s room ≡ false
           unfolding canArise
@@ -120,7 +118,8 @@ module _ (s : State) (room : ℕ) where
                   layout = record { rise = rise; stand = p .stand; small = omega arith };
                   message = told .1;
                   holds = omega arith;
-                  places = pulled-places (s .kind) (anyAtZero (readsOf s)) (s .base) (chunksOf s) (p .fits);
+                  base = pulls;
+                  places = places-of;
                   pulled = pulled-of;
                   taken = rw pulled-of at h;
                 };

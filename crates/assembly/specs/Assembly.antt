@@ -1,4 +1,4 @@
--- The pieces and the message of a reassembly (document 01, "The numbers and their order", "Where each byte of a message goes").
+-- The pieces and the message of a reassembly (document 01, "The numbers and their order", "Where each byte of a message goes"; document 02, order 2).
 use Prim.Native.Nat.{ℕ, _+_}
 use mathlib.Core.Bool.{Bool, cond, _&&_}
 use mathlib.Core.List.{List, []}
@@ -10,8 +10,11 @@ use Rattle.chunk_lists.specs.Lists.{maxReadSegments, positionsNumber}
 use Rattle.layout.specs.Places.{scatter}
 use Rattle.layout.specs.Layout.{anyAtZero, otherChunks, baseLength, messageLength, placeNumber, pulledPlaces}
 use Rattle.layout.specs.declared.Run.{Run}
+use Rattle.placing.specs.Segments.{segmentPlaces}
+use Rattle.placing.specs.Goes.{PulledByte, pulledBytes, goes}
 use Rattle.assembly_state.specs.State.{State}
 use Rattle.assembly_state.specs.Words.{stateIn, withTaken}
+use Rattle.assembly.specs.declared.PieceAnswer.{PieceAnswer}
 
 -- "Its unused places are ignored."
 abbrev pub readsOf : State → List ReadSegment
@@ -21,7 +24,7 @@ readsOf s = take (s .reads .count) (s .reads .segments)
 abbrev pub chunksOf : State → List Run
 chunksOf s = otherChunks (readsOf s)
 
--- "Pulled bytes then come in list order, the position-zero chunk among them": where each goes.
+-- "Pulled bytes then come in list order, the position-zero chunk among them": where each is put.
 abbrev pub pulledOf : State → List ℕ
 pulledOf s = pulledPlaces (s .kind) (s .base) (chunksOf s)
 
@@ -41,6 +44,18 @@ fitsState s room = canArise s && eqb (s .buffer) room
 -- "Taking a piece checks 17, 18.": a piece of `size` bytes.
 unfoldable pub pieceNumber : State → ℕ → ℕ → ℕ
 pieceNumber s room size = check (fitsState s room) 17 (check (leb (s .taken + size) (length (pulledOf s))) 18 0)
+
+-- The pulled bytes of its segments.
+abbrev pub pulledBytesOf : State → List PulledByte
+pulledBytesOf s = pulledBytes 0 (segmentPlaces (s .kind) (s .base) (readsOf s))
+
+-- "Return with each piece how many goes it took: the fewest such runs that make it up, at most 31, and 0 for an empty or a refused piece." (order 2)
+unfoldable pub pieceGoes : State → ℕ → ℕ → ℕ
+pieceGoes s room size = cond (eqb (pieceNumber s room size) 0) (goes (take size (drop (s .taken) (pulledBytesOf s)))) 0
+
+-- What a piece is answered with.
+abbrev pub pieceAnswer : State → ℕ → ℕ → PieceAnswer
+pieceAnswer s room size = record { number = pieceNumber s room size; goes = pieceGoes s room size }
 
 -- "each is written straight into its part of the output buffer"
 unfoldable pub pieceBuffer : State → List ℕ → List ℕ → List ℕ

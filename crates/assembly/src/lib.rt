@@ -1,19 +1,28 @@
 // The pieces and the message of a reassembly, whose state is lent as words. Public: take_piece, message_number, message.
 use assembly_state::Parts;
-use header::Kind;
+use layout::ChunkCheck;
 use layout::LayoutCheck;
+use layout::ReadsCheck;
 ghost use mathlib.Core.Path.{_≡_};
 ghost use mathlib.Core.Bool.{false};
 ghost use lib.ListN.{length};
 ghost use Rattle.chunk_lists.specs.Words.{readsIn};
 ghost use Rattle.assembly_state.specs.Words.{withReads, stateIn};
-ghost use Rattle.assembly.specs.Assembly.{pieceNumber, pieceBuffer, pieceWords, messageNumber, messagePart};
-ghost use Rattle.assembly.specs.Internal.StateCheck.{isNomsg, StateChecked, pieceAnswer, messageAnswer};
+ghost use Rattle.assembly.specs.Assembly.{pieceAnswer, pieceBuffer, pieceWords, messageNumber, messagePart};
+ghost use Rattle.assembly.specs.Internal.StateCheck.{StateChecked, placedPiece, messageAnswer};
 
-// The count behind a piece, and the number.
+// What a piece is answered with: the number, and how many goes it took to place it.
+#[repr(C)]
 pub struct PieceAnswer {
+    pub number: u32,
+    pub goes: u32,
+}
+
+// The count behind a piece, and its answer.
+pub struct PlacedPiece {
     pub taken: usize,
     pub number: u32,
+    pub goes: u32,
 }
 
 // How long the message is, and the number.
@@ -27,16 +36,6 @@ pub struct StateCheck {
     pub message: usize,
     pub pulled: usize,
     pub fits: bool,
-}
-
-fn is_nomsg(kind: Kind) -> bool
-    ensures { λ r. ⌜ r ≡ isNomsg kind ⌝ }
-{
-    match kind {
-        Kind::Msg => false,
-        Kind::Nomsg => true,
-        Kind::Error(_) => false,
-    }
 }
 
 // A state that does not fit.
@@ -58,16 +57,17 @@ fn check_state(words: &[u32; 104], p: Parts, room: usize) -> StateCheck
     if (chunk_lists::MAX_READ_SEGMENTS as u32) < p.count {
         return unfit();
     }
-    let n = p.count as usize;
-    if chunk_lists::check_positions(words, n) != 0 {
-        return unfit();
-    }
     if p.buffer != room {
         return unfit();
     }
     let base = p.base;
-    let sums = layout::sums_of(words, n);
-    let measured = layout::check_layout(kind, base, sums.any_zero, words, n, room);
+    let reads = layout::check_reads(words, p.count as usize, base);
+    let ReadsCheck::Fine(found) = reads else {
+        return unfit();
+    };
+    let sums = found.sums;
+    let stood = ChunkCheck::Stands(found.chunks);
+    let measured = layout::check_room(kind, base, sums.any_zero, stood, room);
     let LayoutCheck::Holds(message) = measured else {
         return unfit();
     };
@@ -85,46 +85,51 @@ fn check_state(words: &[u32; 104], p: Parts, room: usize) -> StateCheck
 }
 
 // Takes a piece; the count is for the caller to store.
-fn place_piece(words: &[u32; 104], piece: &[u8], out: &mut [u8]) -> PieceAnswer
-    ensures answer { λ r. ⌜ r ≡ pieceAnswer (stateIn (now (words .entry))) (length (now (out .entry))) (length (now (piece .entry))) ⌝ }
+fn place_piece(words: &[u32; 104], piece: &[u8], out: &mut [u8]) -> PlacedPiece
+    ensures answer { λ r. ⌜ r ≡ placedPiece (stateIn (now (words .entry))) (length (now (out .entry))) (length (now (piece .entry))) ⌝ }
     ensures buffer { λ _. ⌜ now (out .exit) ≡ pieceBuffer (stateIn (now (words .entry))) (now (piece .entry)) (now (out .entry)) ⌝ }
 {
     let p = assembly_state::parts_in(words);
     let j = check_state(words, p, out.len());
     if !j.fits {
-        return PieceAnswer {
+        return PlacedPiece {
             taken: p.taken,
             number: answers::STATE_UNFIT,
+            goes: 0,
         };
     }
     let size = piece.len();
     if j.pulled - p.taken < size {
-        return PieceAnswer {
+        return PlacedPiece {
             taken: p.taken,
             number: answers::PIECE_LONG,
+            goes: 0,
         };
     }
-    let n = p.count as usize;
-    let kind = p.kind;
-    placing::place(out, piece, words, n, p.base, is_nomsg(kind), p.taken);
-    PieceAnswer {
+    let goes = placing::place(out, piece, words, p.count as usize, p.base, p.taken);
+    PlacedPiece {
         taken: p.taken + size,
         number: 0,
+        goes,
     }
 }
 
 // Takes a piece of the pulled bytes, which come in list order. Of the state, only the count changes.
-pub fn take_piece(words: &mut [u32; 104], piece: &[u8], out: &mut [u8]) -> u32
-    ensures answer { λ r. ⌜ r ≡ pieceNumber (stateIn (now (words .entry))) (length (now (out .entry))) (length (now (piece .entry))) ⌝ }
+pub fn take_piece(words: &mut [u32; 104], piece: &[u8], out: &mut [u8]) -> PieceAnswer
+    ensures answer { λ r. ⌜ r ≡ pieceAnswer (stateIn (now (words .entry))) (length (now (out .entry))) (length (now (piece .entry))) ⌝ }
     ensures state { λ _. ⌜ now (words .exit) ≡ pieceWords (now (words .entry)) (length (now (out .entry))) (length (now (piece .entry))) ⌝ }
     ensures buffer { λ _. ⌜ now (out .exit) ≡ pieceBuffer (stateIn (now (words .entry))) (now (piece .entry)) (now (out .entry)) ⌝ }
 {
     let done = place_piece(words, piece, out);
+    let answer = PieceAnswer {
+        number: done.number,
+        goes: done.goes,
+    };
     if done.number != 0 {
-        return done.number;
+        return answer;
     }
     assembly_state::store_number(words, assembly_state::TAKEN_AT, done.taken);
-    0
+    answer
 }
 
 // Asks how long the message is, in a buffer of `room` bytes.

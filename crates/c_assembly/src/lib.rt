@@ -1,9 +1,10 @@
 // The reassembly of a call, for C: the state is lent as words, and what a call makes is stored where the caller says.
+use assembly::PieceAnswer;
 ghost use mathlib.Core.Path.{_≡_};
 ghost use lib.ListN.{length};
 ghost use Rattle.reader.specs.Frame.{readFrame};
 ghost use Rattle.assembly_start.specs.Start.{startNumber, startBuffer, startWords};
-ghost use Rattle.assembly.specs.Assembly.{pieceNumber, pieceBuffer, messageNumber, pieceWords};
+ghost use Rattle.assembly.specs.Assembly.{pieceAnswer, pieceBuffer, messageNumber, pieceWords};
 ghost use Rattle.c_assembly.specs.Message.{messageSize};
 ghost use Rattle.assembly_state.specs.Words.{stateIn};
 
@@ -19,8 +20,12 @@ pub extern "C" fn eos_start(frame: &[u8], out: &mut [u8], state: &mut [u32; 104]
 
 // Takes a piece of the pulled bytes, which come in list order. Of the state, only the count changes.
 #[no_mangle]
-pub extern "C" fn eos_take_piece(state: &mut [u32; 104], piece: &[u8], out: &mut [u8]) -> u32
-    ensures answer { λ r. ⌜ r ≡ pieceNumber (stateIn (now (state .entry))) (length (now (out .entry))) (length (now (piece .entry))) ⌝ }
+pub extern "C" fn eos_take_piece(
+    state: &mut [u32; 104],
+    piece: &[u8],
+    out: &mut [u8],
+) -> PieceAnswer
+    ensures answer { λ r. ⌜ r ≡ pieceAnswer (stateIn (now (state .entry))) (length (now (out .entry))) (length (now (piece .entry))) ⌝ }
     ensures state { λ _. ⌜ now (state .exit) ≡ pieceWords (now (state .entry)) (length (now (out .entry))) (length (now (piece .entry))) ⌝ }
     ensures buffer { λ _. ⌜ now (out .exit) ≡ pieceBuffer (stateIn (now (state .entry))) (now (piece .entry)) (now (out .entry)) ⌝ }
 {

@@ -21,7 +21,7 @@ use Rattle.chunk_lists.specs.declared.Marker.{Marker}
 use Rattle.chunk_lists.specs.declared.Marker.the-variants as marker
 use Rattle.chunk_lists.specs.declared.ChunkStep.the-variants as chunk
 use Rattle.chunk_lists.specs.declared.ListCheck.the-variants as walk
-use Rattle.chunk_lists.proofs.ListSteps.{readAnswer, writeAnswer, never, end-room, ReadFront, ends, faulty, goes, read-front, ChunkFront, chunk-front, unmarked, full, uncounted, Chunk, chunk-of, writes-end, writes-unmarked, writes-full, writes-uncounted, writes-chunk, marker-number, count-number}
+use Rattle.chunk_lists.proofs.ListSteps.{readAnswer, writeAnswer, never, end-room, ReadFront, ends, faulty, another, read-front, ChunkFront, chunk-front, unmarked, full, uncounted, Chunk, chunk-of, writes-end, writes-unmarked, writes-full, writes-uncounted, writes-chunk, marker-number, count-number}
 use Rattle.chunk_lists.proofs.ListSteps as laws
 use Rattle.chunk_lists.proofs.Items.{item-at}
 
@@ -91,13 +91,13 @@ reads-of zero last s l t e = go (read-front zero last s)
     go : ReadFront zero last s → ReadsAre zero s l t
     go (ends f h is) = reads-none zero s l t h (sym is ∙ e)
     go (faulty n f small is) = absurd (never (sym is ∙ e))
-    go (laws.ReadFront.goes x f h long at4 is aligned rises) = absurd (omega arith)
+    go (laws.ReadFront.another x f h long at4 is aligned rises) = absurd (omega arith)
 reads-of (suc room) last s l t e = go (read-front (suc room) last s) (reads-of room)
   where
     go : ReadFront (suc room) last s → ((last : ℕ) (s : List ℕ) (l : List ReadSegment) (t : List ℕ) → readList room last s ≡ done l t → ReadsAre room s l t) → ReadsAre (suc room) s l t
     go (ends f h is) again = reads-none (suc room) s l t h (sym is ∙ e)
     go (faulty n f small is) again = absurd (never (sym is ∙ e))
-    go (laws.ReadFront.goes x f h long at4 is aligned rises) again =
+    go (laws.ReadFront.another x f h long at4 is aligned rises) again =
         let r : suc room - 1 ≡ room = omega arith in
         let q : prepend x (readList room (x .position) (drop 24 s)) ≡ done l t = rw (← r) (sym is ∙ e) in
         let m = longer x (readList room (x .position) (drop 24 s)) l t q in
@@ -114,13 +114,13 @@ reads-rise zero last s l t e = go (read-front zero last s)
     go : ReadFront zero last s → positionsNumber last l 0 ≡ 0
     go (ends f h is) = let none-read : l ≡ [] = none-of (sym is ∙ e) in rw none-read
     go (faulty n f small is) = absurd (never (sym is ∙ e))
-    go (laws.ReadFront.goes x f h long at4 is aligned rises) = absurd (omega arith)
+    go (laws.ReadFront.another x f h long at4 is aligned rises) = absurd (omega arith)
 reads-rise (suc room) last s l t e = go (read-front (suc room) last s) (reads-rise room)
   where
     go : ReadFront (suc room) last s → ((last : ℕ) (s : List ℕ) (l : List ReadSegment) (t : List ℕ) → readList room last s ≡ done l t → positionsNumber last l 0 ≡ 0) → positionsNumber last l 0 ≡ 0
     go (ends f h is) again = let none-read : l ≡ [] = none-of (sym is ∙ e) in rw none-read
     go (faulty n f small is) again = absurd (never (sym is ∙ e))
-    go (laws.ReadFront.goes x f h long at4 is aligned rises) again =
+    go (laws.ReadFront.another x f h long at4 is aligned rises) again =
         let r : suc room - 1 ≡ room = omega arith in
         let q : prepend x (readList room (x .position) (drop 24 s)) ≡ done l t = rw (← r) (sym is ∙ e) in
         let m = longer x (readList room (x .position) (drop 24 s)) l t q in
@@ -138,13 +138,13 @@ read-number zero last s n e = go (read-front zero last s)
     go : ReadFront zero last s → n ≤ 9
     go (ends f h is) = absurd (never (sym e ∙ is))
     go (faulty m f small is) = let same : refused m ≡ refused n = sym is ∙ e in let equal : m ≡ n = cc in omega arith
-    go (laws.ReadFront.goes x f h long at4 is aligned rises) = absurd (omega arith)
+    go (laws.ReadFront.another x f h long at4 is aligned rises) = absurd (omega arith)
 read-number (suc room) last s n e = go (read-front (suc room) last s) (read-number room)
   where
     go : ReadFront (suc room) last s → ((last : ℕ) (s : List ℕ) (n : ℕ) → readList room last s ≡ refused n → n ≤ 9) → n ≤ 9
     go (ends f h is) again = absurd (never (sym e ∙ is))
     go (faulty m f small is) again = let same : refused m ≡ refused n = sym is ∙ e in let equal : m ≡ n = cc in omega arith
-    go (laws.ReadFront.goes x f h long at4 is aligned rises) again =
+    go (laws.ReadFront.another x f h long at4 is aligned rises) again =
         let r : suc room - 1 ≡ room = omega arith in
         let q : prepend x (readList room (x .position) (drop 24 s)) ≡ refused n = rw (← r) (sym is ∙ e) in
         again (x .position) (drop 24 s) n (prepend-refused x (readList room (x .position) (drop 24 s)) n q)
@@ -257,7 +257,7 @@ writes-of zero left s cs t e = go (chunk-front zero left s)
     go (unmarked n f m) = absurd (never (sym (writes-unmarked left s zero n m) ∙ e))
     go (full f m h) = absurd (never (sym (writes-full left s zero h m) ∙ e))
     go (uncounted n f m h q) = absurd (omega arith)
-    go (laws.ChunkFront.goes c u f m h q) = absurd (omega arith)
+    go (laws.ChunkFront.another c u f m h q) = absurd (omega arith)
 writes-of (suc room) left s cs t e = go (chunk-front (suc room) left s) (writes-of room)
   where
     go : ChunkFront (suc room) left s → ((left : ℕ) (s : List ℕ) (cs : List (List Segment)) (t : List ℕ) → writeList room left s ≡ done cs t → WritesAre room left s cs t) → WritesAre (suc room) left s cs t
@@ -265,7 +265,7 @@ writes-of (suc room) left s cs t e = go (chunk-front (suc room) left s) (writes-
     go (unmarked n f m) again = absurd (never (sym (writes-unmarked left s (suc room) n m) ∙ e))
     go (full f m h) again = absurd (never (sym (writes-full left s (suc room) h m) ∙ e))
     go (uncounted n f m h q) again = absurd (never (sym (writes-uncounted left s (suc room) n h m q) ∙ e))
-    go (laws.ChunkFront.goes c u f m h q) again =
+    go (laws.ChunkFront.another c u f m h q) again =
         let r : suc room - 1 ≡ room = omega arith in
         let p : prepend c (writeList room (left - length c) u) ≡ done cs t = rw (← r) (sym (writes-chunk left s (suc room) c u h m q) ∙ e) in
         let x = longer c (writeList room (left - length c) u) cs t p in
@@ -280,7 +280,7 @@ write-number zero left s n e = go (chunk-front zero left s)
     go (unmarked k f m) = let same : refused k ≡ refused n = sym (writes-unmarked left s zero k m) ∙ e in let equal : k ≡ n = cc in omega (arith, marker-number s k m)
     go (full f m h) = let same : refused 7 ≡ refused n = sym (writes-full left s zero h m) ∙ e in let equal : 7 ≡ n = cc in omega arith
     go (uncounted k f m h q) = absurd (omega arith)
-    go (laws.ChunkFront.goes c u f m h q) = absurd (omega arith)
+    go (laws.ChunkFront.another c u f m h q) = absurd (omega arith)
 write-number (suc room) left s n e = go (chunk-front (suc room) left s) (write-number room)
   where
     go : ChunkFront (suc room) left s → ((left : ℕ) (s : List ℕ) (n : ℕ) → writeList room left s ≡ refused n → n ≤ 9) → n ≤ 9
@@ -288,7 +288,7 @@ write-number (suc room) left s n e = go (chunk-front (suc room) left s) (write-n
     go (unmarked k f m) again = let same : refused k ≡ refused n = sym (writes-unmarked left s (suc room) k m) ∙ e in let equal : k ≡ n = cc in omega (arith, marker-number s k m)
     go (full f m h) again = absurd (omega arith)
     go (uncounted k f m h q) again = let same : refused k ≡ refused n = sym (writes-uncounted left s (suc room) k h m q) ∙ e in let equal : k ≡ n = cc in omega (arith, count-number left (drop 4 s) k q)
-    go (laws.ChunkFront.goes c u f m h q) again =
+    go (laws.ChunkFront.another c u f m h q) again =
         let r : suc room - 1 ≡ room = omega arith in
         let p : prepend c (writeList room (left - length c) u) ≡ refused n = rw (← r) (sym (writes-chunk left s (suc room) c u h m q) ∙ e) in
         again (left - length c) u n (prepend-refused c (writeList room (left - length c) u) n p)
@@ -364,7 +364,7 @@ module _ (s : List ℕ) where
       go (unmarked k f m) = let same : k ≡ n = cc in rw (m, same)
       go (full f m h) = absurd (omega arith)
       go (uncounted k f m h q) = let same : k ≡ n = cc in rw (m, q, same)
-      go (laws.ChunkFront.goes c u f m h q) = absurd (let z : _≡_ {A = ℕ} 0 1 = cc in omega arith)
+      go (laws.ChunkFront.another c u f m h q) = absurd (let z : _≡_ {A = ℕ} 0 1 = cc in omega arith)
 
   pub reply-absent : chunkStep 1 16 s ≡ chunk.End → (4 ≤ length s) × (replyChunk s ≡ done none (drop 4 s))
   unfolding replyChunk
@@ -375,7 +375,7 @@ module _ (s : List ℕ) where
       go (unmarked k f m) = absurd (let z : _≡_ {A = ℕ} 0 1 = cc in omega arith)
       go (full f m h) = absurd (omega arith)
       go (uncounted k f m h q) = absurd (let z : _≡_ {A = ℕ} 0 1 = cc in omega arith)
-      go (laws.ChunkFront.goes c u f m h q) = absurd (let z : _≡_ {A = ℕ} 0 1 = cc in omega arith)
+      go (laws.ChunkFront.another c u f m h q) = absurd (let z : _≡_ {A = ℕ} 0 1 = cc in omega arith)
 
   pub record ReplyIs (n : ℕ) : Type 0 where
     pub chunk : List Segment
@@ -393,7 +393,7 @@ module _ (s : List ℕ) where
       go (unmarked k f m) = absurd (let z : _≡_ {A = ℕ} 0 1 = cc in omega arith)
       go (full f m h) = absurd (omega arith)
       go (uncounted k f m h q) = absurd (let z : _≡_ {A = ℕ} 0 1 = cc in omega arith)
-      go (laws.ChunkFront.goes c u f m h q) =
+      go (laws.ChunkFront.another c u f m h q) =
           let same : length c ≡ n = cc in
           let k = chunk-of 16 s c u m q in
           record {

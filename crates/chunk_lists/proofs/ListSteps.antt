@@ -146,7 +146,7 @@ position-of x s e = ap (λ (y : ReadSegment). y .position) e
 pub data ReadFront (room last : ℕ) (s : List ℕ) : Type 0 where
   ends : readStep room last s ≡ read.End → 4 ≤ length s → readList room last s ≡ done [] (drop 4 s) → ReadFront room last s
   faulty : (n : ℕ) → readStep room last s ≡ read.Refused n → n ≤ 9 → readList room last s ≡ refused n → ReadFront room last s
-  goes : (x : ReadSegment) → readStep room last s ≡ read.Entry (x .position) → 0 < room → 24 ≤ length s → x ≡ readSegmentAt s 4 →
+  another : (x : ReadSegment) → readStep room last s ≡ read.Entry (x .position) → 0 < room → 24 ≤ length s → x ≡ readSegmentAt s 4 →
       readList room last s ≡ prepend x (readList (room - 1) (x .position) (drop 24 s)) → x .position % 4 ≡ 0 → last ≤ x .position → ReadFront room last s
 
 pub read-front : (room last : ℕ) (s : List ℕ) → ReadFront room last s
@@ -168,7 +168,7 @@ read-front (suc room) last s = go (markerOf s) refl
         let rest : u ≡ drop 24 s = h .behind ∙ drop-drop 20 4 s in
         let room-is : suc room - 1 ≡ room = omega arith in
         let at-four : x .position ≡ wordAt (drop 4 s) 0 = position-of x (drop 4 s) (h .is) in
-        goes x (rw (e, eqb·suc-zero room, q)) (omega arith) (omega (arith, h .long, length-drop 4 s)) is (rw (e, q, rest, room-is)) (rw at-four (h .aligned)) (rw at-four (h .rises))
+        another x (rw (e, eqb·suc-zero room, q)) (omega arith) (omega (arith, h .long, length-drop 4 s)) is (rw (e, q, rest, room-is)) (rw at-four (h .aligned)) (rw at-four (h .rises))
 
     go : (m : Marker) → markerOf s ≡ m → ReadFront (suc room) last s
     go (marker.Refused n) e = faulty n (rw e) (marker-number s n e) (rw e)
@@ -220,7 +220,7 @@ pub data ChunkFront (room left : ℕ) (s : List ℕ) : Type 0 where
   unmarked : (n : ℕ) → chunkStep room left s ≡ chunk.Refused n → markerOf s ≡ marker.Refused n → ChunkFront room left s
   full : chunkStep room left s ≡ chunk.Refused 7 → markerOf s ≡ marker.Entry → room ≡ 0 → ChunkFront room left s
   uncounted : (n : ℕ) → chunkStep room left s ≡ chunk.Refused n → markerOf s ≡ marker.Entry → 0 < room → counted left (drop 4 s) ≡ refused n → ChunkFront room left s
-  goes : (c : List Segment) (u : List ℕ) → chunkStep room left s ≡ chunk.Chunk (length c) → markerOf s ≡ marker.Entry → 0 < room → counted left (drop 4 s) ≡ done c u → ChunkFront room left s
+  another : (c : List Segment) (u : List ℕ) → chunkStep room left s ≡ chunk.Chunk (length c) → markerOf s ≡ marker.Entry → 0 < room → counted left (drop 4 s) ≡ done c u → ChunkFront room left s
 
 pub chunk-front : (room left : ℕ) (s : List ℕ) → ChunkFront room left s
 unfolding chunkStep
@@ -228,7 +228,7 @@ chunk-front room left s = go (markerOf s) refl
   where
     counting : markerOf s ≡ marker.Entry → 0 < room → (p : Parsed (List Segment)) → counted left (drop 4 s) ≡ p → ChunkFront room left s
     counting e h (refused n) q = uncounted n (rw (e, ne-eqb room 0 (omega arith), q)) e h q
-    counting e h (done c u) q = goes c u (rw (e, ne-eqb room 0 (omega arith), q)) e h q
+    counting e h (done c u) q = another c u (rw (e, ne-eqb room 0 (omega arith), q)) e h q
 
     entered : markerOf s ≡ marker.Entry → (b : Bool) → eqb room 0 ≡ b → ChunkFront room left s
     entered e true q = full (rw (e, q)) e (eqb-true room 0 q)
@@ -292,7 +292,7 @@ module _ (room last : ℕ) (s : List ℕ) (step : ReadStep) (is-step : step ≡ 
       go : ReadFront room last s → 16 - room ≡ packedCheck (readAnswer room) (readList room last s)
       go (ends h long is) = rw is (omega arith)
       go (faulty n f small is) = absurd (let z : _≡_ {A = ℕ} 0 1 = cc in omega arith)
-      go (goes x f pos long at4 is aligned rises) = absurd (let z : _≡_ {A = ℕ} 0 1 = cc in omega arith)
+      go (another x f pos long at4 is aligned rises) = absurd (let z : _≡_ {A = ℕ} 0 1 = cc in omega arith)
 
   pub read-refused : (n : ℕ) → step ≡ read.Refused n → (f : List ReadSegment → ℕ) → 256 + n ≡ packedCheck f (readList room last s)
   unfolding packedCheck
@@ -301,7 +301,7 @@ module _ (room last : ℕ) (s : List ℕ) (step : ReadStep) (is-step : step ≡ 
       go : ReadFront room last s → 256 + n ≡ packedCheck g (readList room last s)
       go (ends f long is) = absurd (let z : _≡_ {A = ℕ} 0 1 = cc in omega arith)
       go (faulty m f small is) = let same : n ≡ m = cc in rw (is, same)
-      go (goes x f pos long at4 is aligned rises) = absurd (let z : _≡_ {A = ℕ} 0 1 = cc in omega arith)
+      go (another x f pos long at4 is aligned rises) = absurd (let z : _≡_ {A = ℕ} 0 1 = cc in omega arith)
 
   -- At an entry: there is room for it, its bytes are there, and the answer is that of the list behind it.
   module _ (p : ℕ) (e : step ≡ read.Entry p) where
@@ -311,7 +311,7 @@ module _ (room last : ℕ) (s : List ℕ) (step : ReadStep) (is-step : step ≡ 
         go : ReadFront room last s → Further room last s p
         go (ends f long is) = absurd (let z : _≡_ {A = ℕ} 0 1 = cc in omega arith)
         go (faulty m f small is) = absurd (let z : _≡_ {A = ℕ} 0 1 = cc in omega arith)
-        go (goes x f pos long at4 is aligned rises) =
+        go (another x f pos long at4 is aligned rises) =
             let same : p ≡ x .position = cc in
             record { first = x; room-left = pos; long = long; is = is ∙ rw same }
 
@@ -386,7 +386,7 @@ module _ (room left : ℕ) (s : List ℕ) (step : ChunkStep) (is-step : step ≡
       go (unmarked n f m) = absurd (let z : _≡_ {A = ℕ} 0 1 = cc in omega arith)
       go (full f m h) = absurd (let z : _≡_ {A = ℕ} 0 1 = cc in omega arith)
       go (uncounted n f m h q) = absurd (let z : _≡_ {A = ℕ} 0 1 = cc in omega arith)
-      go (goes c u f m h q) = absurd (let z : _≡_ {A = ℕ} 0 1 = cc in omega arith)
+      go (another c u f m h q) = absurd (let z : _≡_ {A = ℕ} 0 1 = cc in omega arith)
 
   pub write-refused : (n : ℕ) → step ≡ chunk.Refused n → (f : List (List Segment) → ℕ) → 256 + n ≡ packedCheck f (writeList room left s)
   unfolding packedCheck
@@ -397,7 +397,7 @@ module _ (room left : ℕ) (s : List ℕ) (step : ChunkStep) (is-step : step ≡
       go (unmarked k f m) = let same : n ≡ k = cc in rw (writes-unmarked left s room k m, same)
       go (full f m h) = let same : n ≡ 7 = cc in rw (writes-full left s room h m, same)
       go (uncounted k f m h q) = let same : n ≡ k = cc in rw (writes-uncounted left s room k h m q, same)
-      go (goes c u f m h q) = absurd (let z : _≡_ {A = ℕ} 0 1 = cc in omega arith)
+      go (another c u f m h q) = absurd (let z : _≡_ {A = ℕ} 0 1 = cc in omega arith)
 
   -- At a chunk: there is room for it, its bytes are there, and the answer is that of the list behind it.
   module _ (n : ℕ) (e : step ≡ chunk.Chunk n) where
@@ -409,7 +409,7 @@ module _ (room left : ℕ) (s : List ℕ) (step : ChunkStep) (is-step : step ≡
         go (unmarked k f m) = absurd (let z : _≡_ {A = ℕ} 0 1 = cc in omega arith)
         go (full f m h) = absurd (let z : _≡_ {A = ℕ} 0 1 = cc in omega arith)
         go (uncounted k f m h q) = absurd (let z : _≡_ {A = ℕ} 0 1 = cc in omega arith)
-        go (goes c u f m h q) =
+        go (another c u f m h q) =
             let same : n ≡ length c = cc in
             let k = chunk-of left s c u m q in
             record {

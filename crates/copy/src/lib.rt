@@ -1,4 +1,4 @@
-// The copying leaf: bytes into a part of a buffer, in one go. Internal to the library.
+// The copying leaf: bytes into a part of a buffer, by moves of whole blocks. Internal to the library.
 ghost use mathlib.Core.Path.{_≡_};
 ghost use mathlib.Core.List.{_++_};
 ghost use Prim.Native.Nat.{_+_, _≤_};

@@ -1,7 +1,7 @@
 -- The walk over a read list: the chunk at hand, and the chunks from it on.
 -- Assumes nothing.
 use mathlib.Core.Path.{_≡_, refl, sym, ap, subst, _∙_}
-use mathlib.Core.Bool.{Bool, true, false}
+use mathlib.Core.Bool.{Bool, true, false, cond}
 use mathlib.Core.List.{List, [], _∷_}
 use Prim.Native.Nat.{ℕ, _+_, _-_, _*_, _≤_, _<_}
 use native.Mathlib.Omega.{arith}
@@ -49,8 +49,44 @@ pub ended-all : (w : Run) (x : ReadSegment) → (w .at ≡ x .position → ⊥) 
 unfolding endedLength
 ended-all w x n = rw (ne-eqb (w .at) (x .position) n)
 
+-- A segment at or behind the chunk at hand: where the chunk stands then; and the bytes at hand and those that end grow by the segment's at most.
+module _ (w : Run) (x : ReadSegment) (up : w .at ≤ x .position) where
+  other-run : (w .at ≡ x .position → ⊥) → joinedRun w x ≡ run (x .position) (x .target .length)
+  other-run n = sym (joined-new w x (x .position) (x .target .length) refl refl (λ e. n (omega arith)) n)
+
+  pub joined-at : joinedRun w x .at ≡ x .position
+  joined-at = by (eqb (x .position) 0) (eqb (w .at) (x .position)) refl refl
+    where
+      by : (a b : Bool) → eqb (x .position) 0 ≡ a → eqb (w .at) (x .position) ≡ b → joinedRun w x .at ≡ x .position
+      by true b e f = let z = eqb-true (x .position) 0 e in ap (λ (r : Run). r .at) (sym (joined-zero w x (x .position) (x .target .length) refl refl z)) ∙ omega arith
+      by false true e f = let s = eqb-true (w .at) (x .position) f in ap (λ (r : Run). r .at) (sym (joined-same w x (x .position) (x .target .length) refl refl (eqb-false (x .position) 0 e) s)) ∙ s
+      by false false e f = ap (λ (r : Run). r .at) (other-run (eqb-false (w .at) (x .position) f))
+
+  pub joined-length : joinedRun w x .length + endedLength w x ≤ w .length + x .target .length
+  joined-length = by (eqb (x .position) 0) (eqb (w .at) (x .position)) refl refl
+    where
+      by : (a b : Bool) → eqb (x .position) 0 ≡ a → eqb (w .at) (x .position) ≡ b → joinedRun w x .length + endedLength w x ≤ w .length + x .target .length
+      by true b e f =
+          let z = eqb-true (x .position) 0 e in
+          rw (← (joined-zero w x (x .position) (x .target .length) refl refl z), ← (ended-none w x (omega arith))) (omega arith)
+      by false true e f =
+          let s = eqb-true (w .at) (x .position) f in
+          rw (← (joined-same w x (x .position) (x .target .length) refl refl (eqb-false (x .position) 0 e) s), ← (ended-none w x s)) (omega arith)
+      by false false e f =
+          let n = eqb-false (w .at) (x .position) f in
+          rw (other-run n, ← (ended-all w x n)) (omega arith)
+
+-- What ends was at hand.
+pub ended-within-hand : (w : Run) (x : ReadSegment) → endedLength w x ≤ w .length
+unfolding endedLength
+ended-within-hand w x = by (eqb (w .at) (x .position))
+  where
+    by : (b : Bool) → cond b 0 (w .length) ≤ w .length
+    by true = omega arith
+    by false = omega arith
+
 -- Chunks of segments that never fall below a position stand at or behind it.
-rising-above : (q last : ℕ) (xs : List ReadSegment) → positionsNumber last xs 0 ≡ 0 → q < last → Above q (otherChunks xs)
+pub rising-above : (q last : ℕ) (xs : List ReadSegment) → positionsNumber last xs 0 ≡ 0 → q < last → Above q (otherChunks xs)
 unfolding otherChunks Above
 rising-above q last [] e h = tt
 rising-above q last (x ∷ xs) e h =
@@ -114,7 +150,7 @@ headed w xs n e =
 
 -- A segment more: it goes on with the chunk at hand, opens the first, or ends the chunk at hand and opens the next.
 pub data Step (w : Run) (x : ReadSegment) (xs : List ReadSegment) : Type 0 where
-  goes : x .position ≡ w .at → endedLength w x ≡ 0 → remaining w (x ∷ xs) ≡ remaining (joinedRun w x) xs → Step w x xs
+  joins : x .position ≡ w .at → endedLength w x ≡ 0 → remaining w (x ∷ xs) ≡ remaining (joinedRun w x) xs → Step w x xs
   opens : w .at ≡ 0 → endedLength w x ≡ 0 → remaining w (x ∷ xs) ≡ remaining (joinedRun w x) xs → Headed (x .position) (remaining (joinedRun w x) xs) → Step w x xs
   ends : endedLength w x ≡ w .length → remaining w (x ∷ xs) ≡ w ∷ remaining (joinedRun w x) xs → Headed (x .position) (remaining (joinedRun w x) xs) → Step w x xs
 
@@ -130,12 +166,7 @@ module _ (w : Run) (x : ReadSegment) (xs : List ReadSegment) (k : Walk w (x ∷ 
   new-run n = sym (joined-new w x (x .position) (x .target .length) refl refl (new-chunk n) n)
 
   pub at-position : joinedRun w x .at ≡ x .position
-  at-position = by (eqb (x .position) 0) (eqb (w .at) (x .position)) refl refl
-    where
-      by : (a b : Bool) → eqb (x .position) 0 ≡ a → eqb (w .at) (x .position) ≡ b → joinedRun w x .at ≡ x .position
-      by true b e f = let z = eqb-true (x .position) 0 e in let up = above in ap (λ (r : Run). r .at) (sym (joined-zero w x (x .position) (x .target .length) refl refl z)) ∙ omega arith
-      by false true e f = let s = eqb-true (w .at) (x .position) f in ap (λ (r : Run). r .at) (sym (joined-same w x (x .position) (x .target .length) refl refl (eqb-false (x .position) 0 e) s)) ∙ s
-      by false false e f = ap (λ (r : Run). r .at) (new-run (eqb-false (w .at) (x .position) f))
+  at-position = joined-at w x above
 
   pub walk-next : Walk (joinedRun w x) xs
   walk-next =
@@ -175,28 +206,15 @@ module _ (w : Run) (x : ReadSegment) (xs : List ReadSegment) (k : Walk w (x ∷ 
         rw (behind, some-at-hand w (x ∷ xs) there)
         (join-first (w .at) (w .length) (otherChunks (x ∷ xs)) (rw (← behind, new-run n, some-at-hand (run (x .position) (x .target .length)) xs (new-chunk n)) (above-join (w .at) (x .position) (x .target .length) (otherChunks xs) (omega arith) (rising-above (w .at) (x .position) xs (rises (w .at) x xs (k .rising) .onward) (omega arith)))))
 
-  -- The bytes at hand and those that end grow by the segment's at most.
   pub length-next : joinedRun w x .length + endedLength w x ≤ w .length + x .target .length
-  length-next = by (eqb (x .position) 0) (eqb (w .at) (x .position)) refl refl
-    where
-      by : (a b : Bool) → eqb (x .position) 0 ≡ a → eqb (w .at) (x .position) ≡ b → joinedRun w x .length + endedLength w x ≤ w .length + x .target .length
-      by true b e f =
-          let z = eqb-true (x .position) 0 e in
-          let up = above in
-          rw (← (joined-zero w x (x .position) (x .target .length) refl refl z), ← (ended-none w x (omega arith))) (omega arith)
-      by false true e f =
-          let s = eqb-true (w .at) (x .position) f in
-          rw (← (joined-same w x (x .position) (x .target .length) refl refl (eqb-false (x .position) 0 e) s), ← (ended-none w x s)) (omega arith)
-      by false false e f =
-          let n = eqb-false (w .at) (x .position) f in
-          rw (new-run n, ← (ended-all w x n)) (omega arith)
+  length-next = joined-length w x above
 
   pub step : Step w x xs
   step = by (eqb (w .at) (x .position)) (eqb (x .position) 0) (eqb (w .at) 0) refl refl refl
     where
       by : (a b c : Bool) → eqb (w .at) (x .position) ≡ a → eqb (x .position) 0 ≡ b → eqb (w .at) 0 ≡ c → Step w x xs
-      by true true c e f g = let s = eqb-true (w .at) (x .position) e in goes (sym s) (sym (ended-none w x s)) (go-zero (eqb-true (x .position) 0 f))
-      by true false c e f g = let s = eqb-true (w .at) (x .position) e in goes (sym s) (sym (ended-none w x s)) (go-same (eqb-false (x .position) 0 f) s)
+      by true true c e f g = let s = eqb-true (w .at) (x .position) e in joins (sym s) (sym (ended-none w x s)) (go-zero (eqb-true (x .position) 0 f))
+      by true false c e f g = let s = eqb-true (w .at) (x .position) e in joins (sym s) (sym (ended-none w x s)) (go-same (eqb-false (x .position) 0 f) s)
       by false b true e f g =
           let n = eqb-false (w .at) (x .position) e in
           let z = eqb-true (w .at) 0 g in
@@ -205,54 +223,43 @@ module _ (w : Run) (x : ReadSegment) (xs : List ReadSegment) (k : Walk w (x ∷ 
           let n = eqb-false (w .at) (x .position) e in
           ends (sym (ended-all w x n)) (open-next n (eqb-false (w .at) 0 g)) (head n)
 
--- What ends was at hand.
-ended-within-hand : (w : Run) (x : ReadSegment) (xs : List ReadSegment) → Walk w (x ∷ xs) → endedLength w x ≤ w .length
-ended-within-hand w x xs k = by (step w x xs k)
-  where
-    by : Step w x xs → endedLength w x ≤ w .length
-    by (goes a b c) = rw b (omega arith)
-    by (opens a b c h) = rw b (omega arith)
-    by (ends b c h) = rw b (omega arith)
-
 -- No number on the way is too large: behind i segments, with so many rounded bytes of earlier chunks.
 pub record Low (i earlier : ℕ) (w : Run) : Type 0 where
   pub sum : earlier + w .length ≤ i * 4294967300
   pub at : w .at ≤ 4294967295
 
--- Behind i segments of a list.
-pub record Along (reads : List ReadSegment) (i earlier : ℕ) (w : Run) : Type 0 where
-  pub walk : Walk w (drop i reads)
+-- Behind i segments, with those to come.
+pub record Along (to-come : List ReadSegment) (i earlier : ℕ) (w : Run) : Type 0 where
+  pub walk : Walk w to-come
   pub low : Low i earlier w
 
 pub along-start : (reads : List ReadSegment) → positionsNumber 0 reads 0 ≡ 0 → Along reads 0 0 (run 0 0)
 along-start reads e = record { walk = walk-start reads e; low = record { sum = omega arith; at = omega arith } }
 
--- What is known at segment i of a list's first n, which is x, and behind the last.
-pub record Here (n i earlier : ℕ) (a : List ReadSegment) (w : Run) (x : ReadSegment) : Type 0 where
-  pub rest : drop i (take n a) ≡ x ∷ drop (i + 1) (take n a)
-  pub walk : Walk w (x ∷ drop (i + 1) (take n a))
+-- What is known at a segment x, with xs behind it, and behind the last.
+pub record Here (to-come xs : List ReadSegment) (i earlier : ℕ) (w : Run) (x : ReadSegment) : Type 0 where
+  pub rest : to-come ≡ x ∷ xs
+  pub walk : Walk w (x ∷ xs)
   pub ended-most : endedLength w x ≤ w .length
   pub sum : earlier + w .length ≤ i * 4294967300
   pub low : w .at ≤ 4294967295
-  pub onward : (size : ℕ) (r : Run) → size ≤ endedLength w x + 3 → r ≡ joinedRun w x → Near x → Along (take n a) (i + 1) (earlier + size) r
+  pub onward : (size : ℕ) (r : Run) → size ≤ endedLength w x + 3 → r ≡ joinedRun w x → Near x → Along xs (i + 1) (earlier + size) r
 
-pub record Behind (n i earlier : ℕ) (a : List ReadSegment) (w : Run) : Type 0 where
-  pub none : drop i (take n a) ≡ []
+pub record Behind (to-come : List ReadSegment) (i earlier : ℕ) (w : Run) : Type 0 where
+  pub none : to-come ≡ []
   pub walk : Walk w []
   pub sum : earlier + w .length ≤ i * 4294967300
   pub low : w .at ≤ 4294967295
 
-module _ (n i earlier : ℕ) (a : List ReadSegment) (w : Run) (full : length a ≡ 16) (few : n ≤ 16) (k : Along (take n a) i earlier w) where
-  pub here : (x : ReadSegment) → x ≡ getD a i zeroReadSegment → i < n → Here n i earlier a w x
-  here x is h =
-      let xs = drop (i + 1) (take n a) in
-      let rest : drop i (take n a) ≡ x ∷ xs = rw (is, add-one, ← (getD-take n a i zeroReadSegment h)) (drop-cons (take n a) i zeroReadSegment (rw (length-take-le n a (omega arith)) h)) in
+module _ (to-come : List ReadSegment) (i earlier : ℕ) (w : Run) (k : Along to-come i earlier w) where
+  pub here-of : (x : ReadSegment) (xs : List ReadSegment) → to-come ≡ x ∷ xs → Here to-come xs i earlier w x
+  here-of x xs rest =
       let walk = rw rest at (k .walk) in
       let more = length-next w x xs walk in
       record {
         rest = rest;
         walk = walk;
-        ended-most = ended-within-hand w x xs walk;
+        ended-most = ended-within-hand w x;
         sum = k .low .sum;
         low = k .low .at;
         onward = λ size r most e near. rw e
@@ -262,8 +269,23 @@ module _ (n i earlier : ℕ) (a : List ReadSegment) (w : Run) (full : length a �
             });
       }
 
-  pub behind-all : n ≤ i → i ≤ n → Behind n i earlier a w
-  behind-all ge le =
+  pub behind-of : to-come ≡ [] → Behind to-come i earlier w
+  behind-of none = record { none = none; walk = rw none at (k .walk); sum = k .low .sum; low = k .low .at }
+
+-- Segment i of a list's first n, and the end behind the last.
+module _ (n i : ℕ) (a : List ReadSegment) (full : length a ≡ 16) (few : n ≤ 16) where
+  pub segment-here : (x : ReadSegment) → x ≡ getD a i zeroReadSegment → i < n → drop i (take n a) ≡ x ∷ drop (i + 1) (take n a)
+  segment-here x is h = rw (is, add-one, ← (getD-take n a i zeroReadSegment h)) (drop-cons (take n a) i zeroReadSegment (rw (length-take-le n a (omega arith)) h))
+
+  pub none-here : n ≤ i → i ≤ n → drop i (take n a) ≡ []
+  none-here ge le =
       let all : i ≡ n = omega arith in
-      let none : drop i (take n a) ≡ [] = ap (λ (m : ℕ). drop m (take n a)) (all ∙ sym (length-take-le n a (omega arith))) ∙ drop-length (take n a) in
-      record { none = none; walk = rw none at (k .walk); sum = k .low .sum; low = k .low .at }
+      ap (λ (m : ℕ). drop m (take n a)) (all ∙ sym (length-take-le n a (omega arith))) ∙ drop-length (take n a)
+
+-- The same there.
+module _ (n i earlier : ℕ) (a : List ReadSegment) (w : Run) (full : length a ≡ 16) (few : n ≤ 16) (k : Along (drop i (take n a)) i earlier w) where
+  pub here : (x : ReadSegment) → x ≡ getD a i zeroReadSegment → i < n → Here (drop i (take n a)) (drop (i + 1) (take n a)) i earlier w x
+  here x is h = here-of (drop i (take n a)) i earlier w k x (drop (i + 1) (take n a)) (segment-here n i a full few x is h)
+
+  pub behind-all : n ≤ i → i ≤ n → Behind (drop i (take n a)) i earlier w
+  behind-all ge le = behind-of (drop i (take n a)) i earlier w k (none-here n i a full few ge le)

@@ -13,7 +13,7 @@ use Rattle.layout.proofs.Remaining.{remaining}
 use Rattle.layout.specs.declared.Run.{Run}
 use Rattle.layout.specs.declared.ChunkCheck.{ChunkCheck}
 use Rattle.layout.specs.declared.ChunkCheck.the-variants.{Stands, Overlaps}
-use Rattle.layout.proofs.ChunkWalk.{Walk, Headed, Step, goes, opens, ends, step, above, at-position, at-first, Last, nothing, itself, last}
+use Rattle.layout.proofs.ChunkWalk.{Walk, Headed, Step, joins, opens, ends, step, above, at-position, at-first, Last, nothing, itself, last}
 
 -- Rounding adds 3 at most.
 pub rounded-most : (l : ℕ) → (l ≤ roundedUp l) × (roundedUp l ≤ l + 3)
@@ -84,7 +84,7 @@ module _ (base : ℕ) (cs : List Run) (w : Run) (earlier : ℕ) (x : ReadSegment
   stood-next over near = by (step w x xs k)
     where
       by : Step w x xs → Stood base cs (joinedRun w x) (earlier + size) xs
-      by (goes here z is) = stays z is near
+      by (joins here z is) = stays z is near
       by (opens none z is h) = stays z is near
       by (ends z is h) =
           let below = s .below in
@@ -104,7 +104,7 @@ module _ (base : ℕ) (cs : List Run) (w : Run) (earlier : ℕ) (x : ReadSegment
   stood-overlaps under = by (step w x xs k)
     where
       by : Step w x xs → chunkCheck base cs ≡ Overlaps
-      by (goes here z is) = absurd (let none = none-ended z in let up = above w x xs k in omega arith)
+      by (joins here z is) = absurd (let none = none-ended z in let up = above w x xs k in omega arith)
       by (opens first z is h) = absurd (let none = none-ended z in let up = above w x xs k in omega arith)
       by (ends z is h) = overlaps base cs (same-ended z is ∙ stands-over base (w .at + size) (earlier + size) (x .position) _ h under)
 
@@ -112,7 +112,7 @@ module _ (base : ℕ) (cs : List Run) (w : Run) (earlier : ℕ) (x : ReadSegment
   stood-past over past = by (step w x xs k)
     where
       by : Step w x xs → chunkCheck base cs ≡ Overlaps
-      by (goes here z is) = absurd (let none = none-ended z in let near = s .near in omega arith)
+      by (joins here z is) = absurd (let none = none-ended z in let near = s .near in omega arith)
       by (opens first z is h) =
           let none = none-ended z in
           let behind = s .behind in

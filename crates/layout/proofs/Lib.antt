@@ -9,3 +9,4 @@ pub mod Placed
 pub mod Apart
 pub mod Once
 pub mod Passed
+pub mod ReadsWalk

@@ -3,22 +3,24 @@
 use mathlib.Core.Path.{_≡_, sym, ap, subst, _∙_}
 use mathlib.Core.Bool.{true}
 use mathlib.Core.List.{List, [], _∷_, _++_}
-use Prim.Native.Nat.{ℕ, _+_, _-_, _≤_, _<_}
+use Prim.Native.Nat.{ℕ, suc, _+_, _-_, _≤_, _<_}
 use native.Mathlib.Nat.{add-zero, add-assoc}
 use native.Mathlib.Omega.{arith}
-use lib.ListN.{length, drop, length-drop}
+use lib.ListN.{drop}
 use lib.Dec.{leb}
 use borrow.Author.Tests.{leb-true}
 use Rattle.wire.specs.declared.ReadSegment.{ReadSegment}
 use Rattle.answers.proofs.Checks.{both-hold}
 use Rattle.layout.specs.Places.{from}
 use Rattle.layout.specs.Layout.{run, otherChunks, roundedUp, roundedTotal, stands, places, gaps, basePlaces, messageLength}
-use Rattle.layout.specs.Internal.Walks.{totalLength, joinedRun, endedLength}
-use Rattle.layout.proofs.Remaining.{remaining, Seeks}
+use Rattle.layout.specs.Internal.Walks.{joinedRun, endedLength}
+use Rattle.layout.proofs.Remaining.{remaining, Solid, Seeks}
 use Rattle.layout.specs.declared.Run.{Run}
-use Rattle.layout.proofs.ChunkWalk.{Walk, Headed, Step, goes, opens, ends, step, at-position, at-first, Last, nothing, itself, last}
-use Rattle.layout.proofs.ChunksStand.{rounded-none}
-use Rattle.layout.proofs.Scatter.{drop-within, drop-past, length-places}
+use Rattle.layout.proofs.ChunkWalk.{Walk, Headed, Step, joins, opens, ends, step, at-position, at-first, Last, nothing, itself, last}
+use Rattle.layout.proofs.ChunksStand.{rounded-most, rounded-none}
+use Rattle.layout.proofs.Scatter.{drop-within, drop-past}
+use Rattle.layout.proofs.Placed.{Placed, stands-placed, above-gaps}
+use Rattle.layout.proofs.Apart.{NotBelow}
 
 -- The places behind k of `all` are those of rs behind `left`.
 unfoldable pub Onward : List ℕ → ℕ → List Run → ℕ → Type 0
@@ -43,94 +45,41 @@ seek-next all k r rs left h o x =
     let e : left + x ≡ r .length + (left - r .length + x) = omega arith in
     o x ∙ rw e (drop-past (left - r .length + x) (r .at) (r .length) (places rs))
 
--- With the chunk w at hand: how many bytes are left to go.
-pub record ChunkSought (cs : List Run) (k left : ℕ) (w : Run) (xs : List ReadSegment) : Type 0 where
-  pub some : left < totalLength (remaining w xs)
-  pub onward : Onward (places cs) k (remaining w xs) left
-
-pub chunk-start : (xs : List ReadSegment) (k : ℕ) → k < totalLength (otherChunks xs) → ChunkSought (otherChunks xs) k k (run 0 0) xs
-unfolding Onward
-chunk-start xs k h = record { some = rw (at-first xs) h; onward = λ x. rw (at-first xs) }
-
--- A byte further on.
-pub chunk-advance : (cs : List Run) (k left m : ℕ) (w : Run) (xs : List ReadSegment) → k + m < totalLength cs → ChunkSought cs k left w xs → ChunkSought cs (k + m) (left + m) w xs
-unfolding Onward
-chunk-advance cs k left m w xs h s =
-    let there = ap length (s .onward m) in
-    let from-all = length-drop (k + m) (places cs) in
-    let from-rest = length-drop (left + m) (places (remaining w xs)) in
-    record {
-      some = omega (arith, length-places cs, length-places (remaining w xs));
-      onward = λ x. rw (add-assoc k m x, add-assoc left m x) (s .onward (m + x));
-    }
-
-module _ (cs : List Run) (k left : ℕ) (w : Run) (x : ReadSegment) (xs : List ReadSegment) (walk : Walk w (x ∷ xs)) (s : ChunkSought cs k left w (x ∷ xs)) where
-  pub chunk-here : left < endedLength w x → Seeks (places cs) k (run (w .at + left) (endedLength w x - left))
-  chunk-here lt = by (step w x xs walk)
-    where
-      by : Step w x xs → Seeks (places cs) k (run (w .at + left) (endedLength w x - left))
-      by (goes here z is) = absurd (omega arith)
-      by (opens first z is h) = absurd (omega arith)
-      by (ends z is h) = rw z (seek-here (places cs) k w (remaining (joinedRun w x) xs) left (omega arith) (rw is at (s .onward)))
-
-  stays : endedLength w x ≡ 0 → remaining w (x ∷ xs) ≡ remaining (joinedRun w x) xs → ChunkSought cs k (left - endedLength w x) (joinedRun w x) xs
-  stays z is =
-      let same : left - endedLength w x ≡ left = omega arith in
-      rw same (record { some = rw (← is) (s .some); onward = rw (← is) (s .onward) })
-
-  pub chunk-next : endedLength w x ≤ left → ChunkSought cs k (left - endedLength w x) (joinedRun w x) xs
-  unfolding totalLength
-  chunk-next le = by (step w x xs walk)
-    where
-      by : Step w x xs → ChunkSought cs k (left - endedLength w x) (joinedRun w x) xs
-      by (goes here z is) = stays z is
-      by (opens first z is h) = stays z is
-      by (ends z is h) =
-          let total : left < w .length + totalLength (remaining (joinedRun w x) xs) = rw is at (s .some) in
-          rw z (record { some = omega arith; onward = seek-next (places cs) k w (remaining (joinedRun w x) xs) left (omega arith) (rw is at (s .onward)) })
-
--- It lies in the last chunk, with all that come behind it.
-pub record LastByte (cs : List Run) (k left : ℕ) (w : Run) : Type 0 where
-  pub some : left < w .length
-  pub rest : totalLength cs - k ≡ w .length - left
-  pub seeks : Seeks (places cs) k (run (w .at + left) (w .length - left))
-
-pub chunk-last : (cs : List Run) (k left : ℕ) (w : Run) → Walk w [] → ChunkSought cs k left w [] → LastByte cs k left w
-unfolding totalLength Onward
-chunk-last cs k left w walk s = by (last w walk)
-  where
-    by : Last w → LastByte cs k left w
-    by (nothing z is) = absurd (let some = rw is at (s .some) in omega arith)
-    by (itself is) =
-        let some : left < w .length + 0 = rw is at (s .some) in
-        let long : length (drop (k + 0) (places cs)) ≡ length (drop (left + 0) (places (w ∷ []))) = ap length (rw is at (s .onward 0)) in
-        record {
-          some = omega arith;
-          rest = omega (arith, long, length-drop (k + 0) (places cs), length-drop (left + 0) (places (w ∷ [])), length-places cs, length-places (w ∷ []));
-          seeks = seek-here (places cs) k w [] left (omega arith) (rw is at (s .onward));
-        }
-
 -- Before the chunks rs: all rounded lengths of those before, and where the gap before rs starts.
 pub record Gap (base : ℕ) (cs : List Run) (k earlier start : ℕ) (rs : List Run) : Type 0 where
   pub reached : start ≤ k + earlier
   pub onward : Onward (basePlaces base cs) k (gaps start (messageLength base cs) rs) (k + earlier - start)
   pub sum : earlier + roundedTotal rs ≡ roundedTotal cs
   pub stand : stands base start earlier rs ≡ true
+  pub solid : Solid rs
+
+-- The byte begins a run, and behind the run the places jump.
+pub record GapRun (all : List ℕ) (k : ℕ) (r : Run) : Type 0 where
+  pub seeks : Seeks all k r
+  pub jump : NotBelow (suc (r .at + r .length)) (drop (k + r .length) all)
 
 -- A run, said in two ways.
 same-run : (all : List ℕ) (k p q l m : ℕ) → p ≡ q → l ≡ m → Seeks all k (run p l) → Seeks all k (run q m)
 same-run all k p q l m e f s = subst (λ (n : ℕ). Seeks all k (run q n)) f (subst (λ (n : ℕ). Seeks all k (run n l)) e s)
 
 -- The byte lies in the gap before a chunk at p, or behind the chunk c, or in the gap behind all.
-gap-before : (base : ℕ) (cs : List Run) (k earlier start p : ℕ) (rs : List Run) → Gap base cs k earlier start rs → Headed p rs → k + earlier < p → Seeks (basePlaces base cs) k (run (k + earlier) (p - (k + earlier)))
-unfolding gaps
+gap-before : (base : ℕ) (cs : List Run) (k earlier start p : ℕ) (rs : List Run) → Gap base cs k earlier start rs → Headed p rs → k + earlier < p → GapRun (basePlaces base cs) k (run (k + earlier) (p - (k + earlier)))
+unfolding gaps places Onward Placed Solid
 gap-before base cs k earlier start p rs g h lt =
     let reached = g .reached in
-    same-run (basePlaces base cs) k (start + (k + earlier - start)) (k + earlier) (p - start - (k + earlier - start)) (p - (k + earlier)) (omega arith) (omega arith)
-    (seek-here (basePlaces base cs) k _ _ (k + earlier - start) (omega arith) (rw (h .is) at (g .onward)))
+    let placed = stands-placed base start earlier _ (rw (h .is) at (g .stand)) in
+    let some = rw (h .is) at (g .solid) in
+    let up = rounded-most (h .size) .0 in
+    let past : k + earlier - start + (p - (k + earlier)) ≡ p - start + 0 = omega arith in
+    let end : k + earlier + (p - (k + earlier)) ≡ p = omega arith in
+    let behind : drop (k + (p - (k + earlier))) (basePlaces base cs) ≡ places (gaps (p + roundedUp (h .size)) (messageLength base cs) (h .rest)) = g .onward (p - (k + earlier)) ∙ rw (h .is, past) (drop-past 0 start (p - start) _) in
+    record {
+      seeks = same-run (basePlaces base cs) k (start + (k + earlier - start)) (k + earlier) (p - start - (k + earlier - start)) (p - (k + earlier)) (omega arith) (omega arith) (seek-here (basePlaces base cs) k (run start (p - start)) (gaps (p + roundedUp (h .size)) (messageLength base cs) (h .rest)) (k + earlier - start) (omega arith) (rw (h .is) at (g .onward)));
+      jump = rw (behind, end) (above-gaps (suc p) (p + roundedUp (h .size)) (messageLength base cs) _ (h .rest) (omega (arith, some .0)) (placed .2));
+    }
 
 gap-behind : (base : ℕ) (cs : List Run) (k earlier start : ℕ) (c : Run) (rs : List Run) → Gap base cs k earlier start (c ∷ rs) → c .at ≤ k + earlier → Gap base cs k (earlier + roundedUp (c .length)) (c .at + roundedUp (c .length)) rs
-unfolding gaps stands roundedTotal
+unfolding gaps stands roundedTotal Solid
 gap-behind base cs k earlier start c rs g le =
     let reached = g .reached in
     let both = both-hold (leb start (c .at)) _ (g .stand) in
@@ -142,15 +91,20 @@ gap-behind base cs k earlier start c rs g le =
       onward = subst (λ (n : ℕ). Onward (basePlaces base cs) k (gaps (c .at + roundedUp (c .length)) (messageLength base cs) rs) n) left (seek-next (basePlaces base cs) k _ _ (k + earlier - start) (omega arith) (g .onward));
       sum = omega arith;
       stand = both-hold (leb (c .at - earlier) base) _ (both .1) .1;
+      solid = g .solid .1;
     }
 
-gap-end : (base : ℕ) (cs : List Run) (k earlier start : ℕ) → k < base → Gap base cs k earlier start [] → Seeks (basePlaces base cs) k (run (k + earlier) (base - k))
-unfolding gaps roundedTotal
+gap-end : (base : ℕ) (cs : List Run) (k earlier start : ℕ) → k < base → Gap base cs k earlier start [] → GapRun (basePlaces base cs) k (run (k + earlier) (base - k))
+unfolding gaps places roundedTotal Onward NotBelow
 gap-end base cs k earlier start lt g =
     let reached = g .reached in
     let sum = g .sum in
-    same-run (basePlaces base cs) k (start + (k + earlier - start)) (k + earlier) (messageLength base cs - start - (k + earlier - start)) (base - k) (omega arith) (omega arith)
-    (seek-here (basePlaces base cs) k _ _ (k + earlier - start) (omega arith) (g .onward))
+    let past : k + earlier - start + (base - k) ≡ messageLength base cs - start + 0 = omega arith in
+    let behind : drop (k + (base - k)) (basePlaces base cs) ≡ [] = g .onward (base - k) ∙ rw past (drop-past 0 start (messageLength base cs - start) []) in
+    record {
+      seeks = same-run (basePlaces base cs) k (start + (k + earlier - start)) (k + earlier) (messageLength base cs - start - (k + earlier - start)) (base - k) (omega arith) (omega arith) (seek-here (basePlaces base cs) k (run start (messageLength base cs - start)) [] (k + earlier - start) (omega arith) (g .onward));
+      jump = rw behind tt;
+    }
 
 -- With the chunk w at hand, which the byte is not before.
 pub record GapSought (base : ℕ) (cs : List Run) (k earlier : ℕ) (w : Run) (xs : List ReadSegment) : Type 0 where
@@ -158,12 +112,12 @@ pub record GapSought (base : ℕ) (cs : List Run) (k earlier : ℕ) (w : Run) (x
   pub gap : Gap base cs k earlier start (remaining w xs)
   pub passed : w .at ≤ k + earlier
 
-pub gap-start : (base : ℕ) (xs : List ReadSegment) (k : ℕ) → stands base 0 0 (otherChunks xs) ≡ true → GapSought base (otherChunks xs) k 0 (run 0 0) xs
+pub gap-start : (base : ℕ) (xs : List ReadSegment) (k : ℕ) → stands base 0 0 (otherChunks xs) ≡ true → Solid (otherChunks xs) → GapSought base (otherChunks xs) k 0 (run 0 0) xs
 unfolding Onward basePlaces
-gap-start base xs k s =
+gap-start base xs k s t =
     record {
       start = 0;
-      gap = rw (at-first xs) (record { reached = omega arith; onward = λ x. (let e : k + 0 - 0 + x ≡ k + x = omega arith in rw e); sum = omega arith; stand = s });
+      gap = rw (at-first xs) (record { reached = omega arith; onward = λ x. (let e : k + 0 - 0 + x ≡ k + x = omega arith in rw e); sum = omega arith; stand = s; solid = t });
       passed = omega arith;
     }
 
@@ -177,7 +131,7 @@ gap-advance base cs k earlier m w xs s =
     let further : k + m + earlier - s .start ≡ k + earlier - s .start + m = omega arith in
     record {
       start = s .start;
-      gap = record { reached = omega arith; onward = λ x. rw (further, add-assoc k m x, add-assoc (k + earlier - s .start) m x) (g .onward (m + x)); sum = g .sum; stand = g .stand };
+      gap = record { reached = omega arith; onward = λ x. rw (further, add-assoc k m x, add-assoc (k + earlier - s .start) m x) (g .onward (m + x)); sum = g .sum; stand = g .stand; solid = g .solid };
       passed = omega arith;
     }
 
@@ -193,11 +147,11 @@ module _ (base : ℕ) (cs : List Run) (k earlier : ℕ) (w : Run) (x : ReadSegme
       let all : roundedUp (w .length) ≡ size = sym (e ∙ ap roundedUp z) in
       rw all at (gap-behind base cs k earlier (s .start) w (remaining (joinedRun w x) xs) (rw is at (s .gap)) (s .passed))
 
-  pub gap-here : k + (earlier + size) < x .position → Seeks (basePlaces base cs) k (run (k + (earlier + size)) (x .position - (k + (earlier + size))))
+  pub gap-here : k + (earlier + size) < x .position → GapRun (basePlaces base cs) k (run (k + (earlier + size)) (x .position - (k + (earlier + size))))
   gap-here lt = by (step w x xs walk)
     where
-      by : Step w x xs → Seeks (basePlaces base cs) k (run (k + (earlier + size)) (x .position - (k + (earlier + size))))
-      by (goes here z is) = absurd (let none = none-ended z in let passed = s .passed in omega arith)
+      by : Step w x xs → GapRun (basePlaces base cs) k (run (k + (earlier + size)) (x .position - (k + (earlier + size))))
+      by (joins here z is) = absurd (let none = none-ended z in let passed = s .passed in omega arith)
       by (opens first z is h) = gap-before base cs k (earlier + size) (s .start) (x .position) _ (kept z is) h lt
       by (ends z is h) = gap-before base cs k (earlier + size) (w .at + size) (x .position) _ (ended z is) h lt
 
@@ -208,7 +162,7 @@ module _ (base : ℕ) (cs : List Run) (k earlier : ℕ) (w : Run) (x : ReadSegme
       passed = rw (at-position w x xs walk) le
 
       by : Step w x xs → GapSought base cs k (earlier + size) (joinedRun w x) xs
-      by (goes here z is) = record { start = s .start; gap = kept z is; passed = passed }
+      by (joins here z is) = record { start = s .start; gap = kept z is; passed = passed }
       by (opens first z is h) = record { start = s .start; gap = kept z is; passed = passed }
       by (ends z is h) = record { start = w .at + size; gap = ended z is; passed = passed }
 
@@ -217,10 +171,10 @@ module _ (base : ℕ) (cs : List Run) (k earlier : ℕ) (w : Run) (x : ReadSegme
   gap-within le most = let sum = gap-next le .gap .sum in omega arith
 
 pub gap-last : (base : ℕ) (cs : List Run) (k earlier size : ℕ) (w : Run) → Walk w [] → k < base → size ≡ roundedUp (w .length) → GapSought base cs k earlier w [] →
-    Seeks (basePlaces base cs) k (run (k + (earlier + size)) (base - k))
+    GapRun (basePlaces base cs) k (run (k + (earlier + size)) (base - k))
 gap-last base cs k earlier size w walk lt e s = by (last w walk)
   where
-    by : Last w → Seeks (basePlaces base cs) k (run (k + (earlier + size)) (base - k))
+    by : Last w → GapRun (basePlaces base cs) k (run (k + (earlier + size)) (base - k))
     by (nothing z is) =
         let same : earlier + size ≡ earlier = (let none : size ≡ 0 = e ∙ ap roundedUp z ∙ rounded-none in omega arith) in
         rw same (gap-end base cs k earlier (s .start) lt (rw is at (s .gap)))

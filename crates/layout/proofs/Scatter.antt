@@ -5,7 +5,7 @@ use mathlib.Core.List.{List, [], _∷_, _++_, append-assoc}
 use Prim.Native.Nat.{ℕ, zero, suc, _+_, _-_, _≤_}
 use native.Mathlib.Nat.{add-zero, add-suc, suc-add, zero-add}
 use native.Mathlib.Omega.{arith}
-use lib.ListN.{length, drop, set, length-set, length-append, drop-of-length-le}
+use lib.ListN.{length, take, drop, set, length-set, length-append, drop-of-length-le}
 use lib.Seq.{drop-at, drop-append-add}
 use Rattle.wire.specs.Wire.{stored}
 use Rattle.layout.specs.Places.{from, scatter}
@@ -44,6 +44,14 @@ scatter-places (p ∷ ps) qs (x ∷ v) out = scatter-places ps qs v (set out p x
 -- Places behind those that the bytes fill are not written.
 pub scatter-first : (ps qs v out : List ℕ) → length v ≤ length ps → scatter (ps ++ qs) v out ≡ scatter ps v out
 scatter-first ps qs v out h = scatter-places ps qs v out ∙ rw (drop-of-length-le v {i = length ps} h) (scatter-none qs (scatter ps v out))
+
+-- As many places as there are bytes will do.
+pub scatter-take : (ps v out : List ℕ) → scatter (take (length v) ps) v out ≡ scatter ps v out
+unfolding scatter
+scatter-take [] [] out = refl
+scatter-take [] (x ∷ v) out = refl
+scatter-take (p ∷ ps) [] out = refl
+scatter-take (p ∷ ps) (x ∷ v) out = scatter-take ps v (set out p x)
 
 pub length-from : (k n : ℕ) → length (from k n) ≡ n
 unfolding from

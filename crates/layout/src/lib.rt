@@ -11,7 +11,8 @@ ghost use Rattle.wire.specs.declared.ReadSegment.{ReadSegment};
 ghost use Rattle.chunk_lists.specs.Lists.{positionsNumber};
 ghost use Rattle.chunk_lists.specs.Words.{readsIn};
 ghost use Rattle.layout.specs.Layout.{zeroLength, baseLength, otherChunks, roundedUp, kindFits};
-ghost use Rattle.layout.specs.Internal.Walks.{sumsWith, sumsOf, endedLength, joinedRun, Near, chunkCheck, layoutCheck, layoutNumber};
+ghost use Rattle.layout.specs.Internal.Walks.{sumsWith, sumsOf, endedLength, joinedRun, Near, readsCheck, chunkCheck, layoutCheck, layoutNumber};
+ghost use Rattle.layout.specs.declared.Run.{Run};
 
 // "a message of at most 1,048,576 bytes"
 pub const MAX_MESSAGE_BYTES: usize = 1048576;
@@ -36,6 +37,18 @@ pub struct Sums {
 pub enum ChunkCheck {
     Stands(usize),
     Overlaps,
+}
+
+// What one walk over a read list finds: its sums, and the rounded lengths of its chunks together.
+pub struct ReadsFound {
+    pub sums: Sums,
+    pub chunks: usize,
+}
+
+// The positions of a read list are in order and its chunks stand, or not.
+pub enum ReadsCheck {
+    Fine(ReadsFound),
+    Faulty,
 }
 
 // The length of a message that passes the checks of a start, or the number of the one that it does not pass.
@@ -195,17 +208,51 @@ pub fn layout_refusal(m: LayoutCheck) -> u32
     }
 }
 
-// The checks of a start behind those of the reader, for a base of so many bytes and a buffer of `room`.
-pub fn check_layout(
+// Checks the positions of a read list and its chunks over a base, and sums its segments up, in one walk.
+pub fn check_reads(words: &[u32], n: usize, base: usize) -> ReadsCheck
+    requires { ⌜ (n ≤ 16) × (96 ≤ length (now words)) ⌝ }
+    ensures { λ r. ⌜ r ≡ readsCheck base (take n (readsIn (now (words .entry)))) ⌝ }
+{
+    let mut s = Sums {
+        zero_length: 0,
+        any_zero: false,
+        all_length: 0,
+    };
+    let mut w = Run { at: 0, length: 0 };
+    let mut earlier = 0;
+    for i in 0..n {
+        let x = chunk_lists::read_segment_of(words, i);
+        let position = wide(x.position);
+        if position % UNIT_BYTES != 0 {
+            return ReadsCheck::Faulty;
+        }
+        // A position below the one before it, too, lies before the end of the chunk there.
+        let size = rounded(ended_length(w, x));
+        if w.at + size > position {
+            return ReadsCheck::Faulty;
+        }
+        earlier += size;
+        if base < position - earlier {
+            return ReadsCheck::Faulty;
+        }
+        s = add_sums(s, x);
+        w = joined(w, x);
+    }
+    ReadsCheck::Fine(ReadsFound {
+        sums: s,
+        chunks: earlier + rounded(w.length),
+    })
+}
+
+// The checks of a start behind those of the reader, for a base of so many bytes, chunks that were checked and a buffer of `room`.
+pub fn check_room(
     kind: Kind,
     base: usize,
     any_zero: bool,
-    words: &[u32],
-    n: usize,
+    stood: ChunkCheck,
     room: usize,
 ) -> LayoutCheck
-    requires { ⌜ (n ≤ 16) × (positionsNumber 0 (take n (readsIn (now words))) 0 ≡ 0) × (96 ≤ length (now words)) ⌝ }
-    ensures { λ r. ⌜ r ≡ layoutCheck kind base «any_zero» (otherChunks (take n (readsIn (now (words .entry))))) room ⌝ }
+    ensures { λ r. ⌜ ((cs : List Run) → stood ≡ chunkCheck base cs → r ≡ layoutCheck kind base «any_zero» cs room) ⌝ }
 {
     if !kind_fits(kind, any_zero) {
         return LayoutCheck::Refused(answers::KIND_AND_LISTS);
@@ -213,7 +260,6 @@ pub fn check_layout(
     if base % UNIT_BYTES != 0 {
         return LayoutCheck::Refused(answers::BASE_UNALIGNED);
     }
-    let stood = check_chunks(words, n, base);
     let ChunkCheck::Stands(size) = stood else {
         return LayoutCheck::Refused(answers::CHUNK_OVERLAPS);
     };
@@ -229,4 +275,20 @@ pub fn check_layout(
         return LayoutCheck::Refused(answers::BUFFER_SHORT);
     }
     LayoutCheck::Holds(message)
+}
+
+// The same, with the chunks of a read list.
+pub fn check_layout(
+    kind: Kind,
+    base: usize,
+    any_zero: bool,
+    words: &[u32],
+    n: usize,
+    room: usize,
+) -> LayoutCheck
+    requires { ⌜ (n ≤ 16) × (positionsNumber 0 (take n (readsIn (now words))) 0 ≡ 0) × (96 ≤ length (now words)) ⌝ }
+    ensures { λ r. ⌜ r ≡ layoutCheck kind base «any_zero» (otherChunks (take n (readsIn (now (words .entry))))) room ⌝ }
+{
+    let stood = check_chunks(words, n, base);
+    check_room(kind, base, any_zero, stood, room)
 }

@@ -5,10 +5,10 @@ use mathlib.Core.Bool.{Bool, true, false, cond}
 use mathlib.Core.List.{List, [], _∷_, _++_, append-assoc, append-nil}
 use Prim.Native.Nat.{ℕ, zero, suc, _+_, _-_, _≤_, _<_, min}
 use native.Mathlib.Omega.{arith}
-use lib.ListN.{length, take, drop, replicate, length-append, length-drop, length-replicate, replicate-append-replicate, take-append-drop}
-use lib.Seq.{take-add, take-length, drop-drop, drop-append-le, drop-append-add, drop-at, drop-length, length-take-le}
-use lib.Dec.{leb, ltb, eqb}
-use borrow.Author.Tests.{leb-true, leb-false, ltb-true, ltb-false, eqb-true, eqb-false}
+use lib.ListN.{length, take, drop, replicate, length-append, length-take, length-drop, length-replicate, replicate-append-replicate}
+use lib.Seq.{take-add, take-length, drop-drop, drop-at, length-take-le}
+use lib.Dec.{ltb, eqb}
+use borrow.Author.Tests.{ltb-true, ltb-false, eqb-true, eqb-false}
 use Rattle.wire.specs.Wire.{stored}
 use Rattle.wire.specs.declared.ReadSegment.{ReadSegment}
 use Rattle.layout.specs.Places.{from, scatter}
@@ -17,12 +17,14 @@ use Rattle.layout.specs.Internal.Walks.{totalLength, joinedRun, endedLength}
 use Rattle.layout.proofs.Remaining.{remaining, Seeks}
 use Rattle.layout.specs.declared.Run.{Run}
 use Rattle.layout.proofs.Scatter.{scatter-append, scatter-first, scatter-from, scatter-run, scatter-none, length-from, length-places}
-use Rattle.layout.proofs.ChunkWalk.{Walk, headed, Step, goes, opens, ends, step, at-first, Last, nothing, itself, last}
-use Rattle.layout.proofs.ChunksStand.{rounded-most, rounded-none}
+use Rattle.layout.proofs.ChunkWalk.{Walk, headed, Step, joins, opens, ends, step, at-first, Last, nothing, itself, last}
+use Rattle.layout.proofs.ChunksStand.{rounded-none}
 use Rattle.layout.proofs.Apart.{Below, below-append, below-from}
 use Rattle.layout.proofs.Placed.{Placed, all-placed, length-base}
-use Rattle.layout.proofs.RunWalk.{GapSought, gap-advance, gap-here, gap-next, gap-within, ChunkSought, chunk-advance, chunk-here, chunk-next}
+use Rattle.layout.proofs.RunWalk.{GapRun, GapSought, gap-advance, gap-here, gap-next, gap-within}
+use Rattle.placing.specs.Goes.{ofSegment, goes}
 use Rattle.placing.specs.Internal.Sources.{sourcePlaces}
+use Rattle.placing.proofs.Goes.{goes-gap, goes-length, length-bytes}
 
 within-gaps : (n start most : ℕ) (cs : List Run) → start ≤ most → Placed start most cs → most + roundedTotal cs ≤ n → Below n (places (gaps start n cs))
 unfolding Placed roundedTotal places gaps Below
@@ -39,18 +41,14 @@ within-base base cs e = within-gaps _ 0 base cs (omega arith) (all-placed base c
 pub length-based : (base : ℕ) (cs : List Run) → stands base 0 0 cs ≡ true → length (sourcePlaces true base cs) ≡ base + totalLength cs
 length-based base cs e = rw (length-append, length-base base cs e, length-places cs)
 
--- What is behind the first of two parts.
-drop-behind : (ps qs : List ℕ) (k : ℕ) → length ps ≤ k → drop k (ps ++ qs) ≡ drop (k - length ps) qs
-drop-behind ps qs k h = let e : k ≡ length ps + (k - length ps) = omega arith in ap (λ (n : ℕ). drop n (ps ++ qs)) e ∙ drop-append-add ps qs (k - length ps)
-
 -- The run that a byte begins lies in the buffer.
-within-drop : (n k : ℕ) (ps : List ℕ) → Below n ps → Below n (drop k ps)
+pub within-drop : (n k : ℕ) (ps : List ℕ) → Below n ps → Below n (drop k ps)
 unfolding Below
 within-drop n zero ps w = w
 within-drop n (suc k) [] w = tt
 within-drop n (suc k) (p ∷ ps) w = within-drop n k ps (w .1)
 
-from-within : (n k l : ℕ) (ps : List ℕ) → 0 < l → Below n (from k l ++ ps) → k + l ≤ n
+pub from-within : (n k l : ℕ) (ps : List ℕ) → 0 < l → Below n (from k l ++ ps) → k + l ≤ n
 unfolding Below from
 from-within n k zero ps h w = absurd (omega arith)
 from-within n k (suc zero) ps h w = omega (arith, w .0)
@@ -61,16 +59,12 @@ seek-within n k r all s w = from-within n (r .at) (r .length) (drop (k + r .leng
 
 -- m bytes more of a piece, stored from the first place of the run that they begin.
 placed-more : (all : List ℕ) (count j m : ℕ) (r : Run) (piece before out after : List ℕ) → Seeks all (count + j) r → j + m ≤ length piece → m ≤ r .length →
-    out ≡ scatter (drop count all) (take j piece) before → after ≡ stored out (r .at) (take (j + m - j) (drop j piece)) →
+    out ≡ scatter (drop count all) (take j piece) before → after ≡ stored out (r .at) (take m (drop j piece)) →
     after ≡ scatter (drop count all) (take (j + m) piece) before
 placed-more all count j m r piece before out after s fits most now then =
-    let f : j + m - j ≡ m = omega arith in
     let long : length (take m (drop j piece)) ≡ m = length-take-le m (drop j piece) (omega (arith, length-drop j piece)) in
     let front : length (take j piece) ≡ j = length-take-le j piece (omega arith) in
-    then ∙ rw (f, take-add j m piece, scatter-append, front, drop-drop, ← now, s .here) (sym (scatter-run (r .at) (r .length) _ (take m (drop j piece)) out (omega arith)))
-
-part-length : (j m : ℕ) (piece : List ℕ) → j + m ≤ length piece → length (take (j + m - j) (drop j piece)) ≡ m
-part-length j m piece h = length-take-le (j + m - j) (drop j piece) (omega (arith, length-drop j piece)) ∙ omega arith
+    then ∙ rw (take-add j m piece, scatter-append, front, drop-drop, ← now, s .here) (sym (scatter-run (r .at) (r .length) _ (take m (drop j piece)) out (omega arith)))
 
 -- The paddings of one chunk more.
 paddings-next : (cs : List Run) (c : Run) → paddings (cs ++ (c ∷ [])) ≡ paddings cs ++ (run (c .at + c .length) (roundedUp (c .length) - c .length) ∷ [])
@@ -104,20 +98,8 @@ pub record Parted (cs : List Run) (w : Run) (xs : List ReadSegment) : Type 0 whe
   pub past : List Run
   pub all : cs ≡ past ++ remaining w xs
 
-pub parted-start : (xs : List ReadSegment) → Parted (otherChunks xs) (run 0 0) xs
-parted-start xs = record { past = []; all = rw (at-first xs) }
-
 abbrev ended-parted : (cs past : List Run) (c w : Run) (xs : List ReadSegment) → cs ≡ past ++ (c ∷ remaining w xs) → Parted cs w xs
 ended-parted cs past c w xs e = record { past = past ++ (c ∷ []); all = e ∙ sym (append-assoc past (c ∷ []) (remaining w xs)) }
-
-module _ (cs : List Run) (w : Run) (x : ReadSegment) (xs : List ReadSegment) (k : Walk w (x ∷ xs)) (p : Parted cs w (x ∷ xs)) where
-  pub parted-next : Parted cs (joinedRun w x) xs
-  parted-next = by (step w x xs k)
-    where
-      by : Step w x xs → Parted cs (joinedRun w x) xs
-      by (goes here z is) = record { past = p .past; all = rw is at (p .all) }
-      by (opens first z is h) = record { past = p .past; all = rw is at (p .all) }
-      by (ends z is h) = ended-parted cs (p .past) w (joinedRun w x) xs (rw is at (p .all))
 
 module _ (base : ℕ) (cs : List Run) (w : Run) (stand : stands base 0 0 cs ≡ true) where
   -- The chunk at hand stands within the message.
@@ -139,7 +121,7 @@ module _ (base : ℕ) (cs : List Run) (w : Run) (stand : stands base 0 0 cs ≡ 
       hand z = rw (z, rounded-none) (omega (arith, hand-within (x ∷ xs) k p))
 
       by : Step w x xs → w .at + roundedUp (endedLength w x) ≤ messageLength base cs
-      by (goes here z is) = hand z
+      by (joins here z is) = hand z
       by (opens first z is h) = hand z
       by (ends z is h) = rw z (chunk-within base cs (p .past) (remaining (joinedRun w x) xs) w stand (rw is at (p .all)))
 
@@ -181,7 +163,7 @@ module _ (cs : List Run) (w : Run) (before out : List ℕ) where
           record { parts = record { past = p .parts .past; all = rw is at (p .parts .all) }; filled = kept ∙ p .filled }
 
       by : Step w x xs → Padded cs (joinedRun w x) xs before after
-      by (goes here z is) = same z is
+      by (joins here z is) = same z is
       by (opens first z is h) = same z is
       by (ends z is h) = padded-more cs (p .parts .past) w (joinedRun w x) xs n before out after (rw is at (p .parts .all)) (rw z at e) (p .filled) (rw z at then)
 
@@ -204,163 +186,125 @@ pub placed-empty : (ps piece out : List ℕ) → length piece ≡ 0 → out ≡ 
 placed-empty ps [] out e = sym (scatter-none ps out)
 placed-empty ps (b ∷ piece) out e = absurd (omega arith)
 
--- Bytes of a piece, put in a walk over a read list.
-placed-none : (all : List ℕ) (count j m at : ℕ) (piece before out after : List ℕ) → m ≡ 0 → out ≡ scatter (drop count all) (take j piece) before → after ≡ stored out at (take (j + m - j) (drop j piece)) → after ≡ scatter (drop count all) (take (j + m) piece) before
+-- An empty piece takes no go.
+pub piece-none : (i : ℕ) (ps piece : List ℕ) → length piece ≡ 0 → 0 ≡ goes (ofSegment i (take (length piece) ps))
+unfolding goes ofSegment
+piece-none i ps piece e = rw e
+
+-- A piece of a segment has no more goes than bytes.
+pub piece-goes : (i k n : ℕ) (ps : List ℕ) → goes (ofSegment i (take n (drop k ps))) ≤ n
+piece-goes i k n ps = let most : min n (length (drop k ps)) ≤ n = omega arith in omega (arith, goes-length (ofSegment i (take n (drop k ps))), length-bytes i (take n (drop k ps)), length-take n (drop k ps))
+
+-- No bytes go into a gap that has ended.
+pub gap-none : (here end : ℕ) (rest out : List ℕ) → end ≤ here → (0 ≡ min (end - here) (length rest)) × (out ≡ stored out here (take (min (end - here) (length rest)) rest))
 unfolding stored
-placed-none all count j m at piece before out after z now then =
-    let none : j + m - j ≡ 0 = omega arith in
-    let same : j + m ≡ j = omega arith in
-    then ∙ rw (none, same) now
+gap-none here end rest out h = let none : min (end - here) (length rest) ≡ 0 = omega arith in (sym none, rw none)
 
--- The last bytes.
-pub placed-rest : (all : List ℕ) (count j : ℕ) (r : Run) (piece before out after : List ℕ) → Seeks all (count + j) r → j ≤ length piece → length piece - j ≤ r .length →
-    out ≡ scatter (drop count all) (take j piece) before → after ≡ stored out (r .at) (take (length piece - j) (drop j piece)) → after ≡ scatter (drop count all) piece before
-placed-rest all count j r piece before out after s fits most now then =
-    let whole : j + (length piece - j) ≡ length piece = omega arith in
-    let part : j + (length piece - j) - j ≡ length piece - j = omega arith in
-    placed-more all count j (length piece - j) r piece before out after s (omega arith) most now (rw part then)
-    ∙ rw (whole, take-length piece)
-
--- A step of a walk over a read list: m bytes of a piece, behind its first j, are copied to a place. They end within the buffer and come to their own places; where the piece has more bytes, the next one is sought.
-pub record Copying (all : List ℕ) (count j m place : ℕ) (piece before out : List ℕ) (Next : Type 0) : Type 0 where
-  pub room : place + length (take (j + m - j) (drop j piece)) ≤ length out
-  pub placed : (after : List ℕ) → after ≡ stored out place (take (j + m - j) (drop j piece)) → after ≡ scatter (drop count all) (take (j + m) piece) before
+-- What a step of `place_base` makes: m bytes of a piece, behind its first j, come to their own places in one go or none; where the piece has more bytes, the next one is sought.
+pub record GapStep (all : List ℕ) (count j m place : ℕ) (piece before out : List ℕ) (g whole : ℕ) (Next : Type 0) : Type 0 where
+  pub placed : (after : List ℕ) → after ≡ stored out place (take m (drop j piece)) → after ≡ scatter (drop count all) (take (j + m) piece) before
+  pub counted : g + cond (eqb m 0) 0 1 + goes (ofSegment 0 (take (length piece - (j + m)) (drop (count + (j + m)) all))) ≡ whole
+  pub finished : j + m ≡ length piece → g + cond (eqb m 0) 0 1 ≡ whole
   pub next : j + m < length piece → Next
 
--- The step of `place_base`.
+-- A step of `place_base`: the bytes of a piece that go before a segment, m of them behind its first j.
 module _ (base : ℕ) (cs : List Run) (w : Run) (earlier : ℕ) (x : ReadSegment) (xs : List ReadSegment) (walk : Walk w (x ∷ xs)) (count j : ℕ) (s : GapSought base cs (count + j) earlier w (x ∷ xs)) (size : ℕ) (e : size ≡ roundedUp (endedLength w x)) (piece : List ℕ) (more : j < length piece) (m : ℕ) (share : m ≡ min (x .position - (count + j + (earlier + size))) (length piece - j)) where
-  base-placed : (before out after : List ℕ) → out ≡ scatter (drop count (basePlaces base cs)) (take j piece) before →
-      after ≡ stored out (count + j + (earlier + size)) (take (j + m - j) (drop j piece)) → after ≡ scatter (drop count (basePlaces base cs)) (take (j + m) piece) before
-  base-placed before out after now then = by (ltb (count + j + (earlier + size)) (x .position)) refl
-    where
-      by : (b : Bool) → ltb (count + j + (earlier + size)) (x .position) ≡ b → after ≡ scatter (drop count (basePlaces base cs)) (take (j + m) piece) before
-      by true t = placed-more _ count j m _ piece before out after (gap-here base cs (count + j) earlier w x xs walk s size e (ltb-true _ _ t)) (omega arith) (omega arith) now then
-      by false t = let past = ltb-false (count + j + (earlier + size)) (x .position) t in placed-none _ count j m _ piece before out after (omega arith) now then
+  -- They begin a run, or there are none.
+  gap-run : 0 < m → GapRun (basePlaces base cs) (count + j) (run (count + j + (earlier + size)) (x .position - (count + j + (earlier + size))))
+  gap-run some = gap-here base cs (count + j) earlier w x xs walk s size e (omega arith)
 
-  base-within : stands base 0 0 cs ≡ true → count + j ≤ base → count + j + (earlier + size) + m ≤ messageLength base cs
-  base-within stand low = by (ltb (count + j + (earlier + size)) (x .position)) refl
+  pub step-within : stands base 0 0 cs ≡ true → count + length piece ≤ base → count + j + (earlier + size) + m ≤ messageLength base cs
+  step-within stand low = by (ltb (count + j + (earlier + size)) (x .position)) refl
     where
       by : (b : Bool) → ltb (count + j + (earlier + size)) (x .position) ≡ b → count + j + (earlier + size) + m ≤ messageLength base cs
       by true t =
-          let ends-in = seek-within (messageLength base cs) _ _ _ (gap-here base cs (count + j) earlier w x xs walk s size e (ltb-true _ _ t)) (within-base base cs stand) in
+          let lt = ltb-true _ _ t in
+          let ends-in = seek-within (messageLength base cs) _ _ _ (gap-here base cs (count + j) earlier w x xs walk s size e lt .seeks) (within-base base cs stand) in
           omega arith
       by false t =
           let past = ltb-false (count + j + (earlier + size)) (x .position) t in
-          let low-enough = gap-within base cs (count + j) earlier w x xs walk s size e past low in
+          let low-enough = gap-within base cs (count + j) earlier w x xs walk s size e past (omega arith) in
           omega arith
 
-  base-next : j + m < length piece → GapSought base cs (count + (j + m)) (earlier + size) (joinedRun w x) xs
-  base-next further =
+  step-placed : (before out after : List ℕ) → out ≡ scatter (drop count (basePlaces base cs)) (take j piece) before →
+      after ≡ stored out (count + j + (earlier + size)) (take m (drop j piece)) → after ≡ scatter (drop count (basePlaces base cs)) (take (j + m) piece) before
+  unfolding stored
+  step-placed before out after now then = by (eqb m 0) refl
+    where
+      by : (b : Bool) → eqb m 0 ≡ b → after ≡ scatter (drop count (basePlaces base cs)) (take (j + m) piece) before
+      by true z =
+          let none = eqb-true m 0 z in
+          let same : j + m ≡ j = omega arith in
+          then ∙ rw (same, none) now
+      by false z = let n = eqb-false m 0 z in placed-more _ count j m _ piece before out after (gap-run (omega arith) .seeks) (omega arith) (omega arith) now then
+
+  step-counted : (g whole : ℕ) → g + goes (ofSegment 0 (take (length piece - j) (drop (count + j) (basePlaces base cs)))) ≡ whole →
+      g + cond (eqb m 0) 0 1 + goes (ofSegment 0 (take (length piece - (j + m)) (drop (count + (j + m)) (basePlaces base cs)))) ≡ whole
+  step-counted g whole now = by (eqb m 0) refl
+    where
+      rest : goes (ofSegment 0 (take (length piece - j - m) (drop (count + j + m) (basePlaces base cs)))) ≡ goes (ofSegment 0 (take (length piece - (j + m)) (drop (count + (j + m)) (basePlaces base cs))))
+      rest =
+          let a : length piece - j - m ≡ length piece - (j + m) = omega arith in
+          let b : count + j + m ≡ count + (j + m) = omega arith in
+          rw (a, b)
+
+      by : (b : Bool) → eqb m 0 ≡ b → g + cond b 0 1 + goes (ofSegment 0 (take (length piece - (j + m)) (drop (count + (j + m)) (basePlaces base cs)))) ≡ whole
+      by true z =
+          let none = eqb-true m 0 z in
+          let same : j + m ≡ j = omega arith in
+          rw same (omega arith)
+      by false z =
+          let n = eqb-false m 0 z in
+          omega (arith, goes-gap 0 (basePlaces base cs) (count + j) (length piece - j) m _ (gap-run (omega arith)) share (omega arith), rest)
+
+  step-finished : (g whole : ℕ) → g + goes (ofSegment 0 (take (length piece - j) (drop (count + j) (basePlaces base cs)))) ≡ whole → j + m ≡ length piece → g + cond (eqb m 0) 0 1 ≡ whole
+  unfolding goes ofSegment
+  step-finished g whole now all =
+      let none : length piece - (j + m) ≡ 0 = omega arith in
+      let counted : g + cond (eqb m 0) 0 1 + goes (ofSegment 0 (take 0 (drop (count + (j + m)) (basePlaces base cs)))) ≡ whole = rw none at (step-counted g whole now) in
+      omega arith
+
+  step-next : j + m < length piece → GapSought base cs (count + (j + m)) (earlier + size) (joinedRun w x) xs
+  step-next further =
       let same : count + j + m ≡ count + (j + m) = omega arith in
       rw same at (gap-next base cs (count + j + m) earlier w x xs walk (gap-advance base cs (count + j) earlier m w (x ∷ xs) s) size e (omega arith))
 
-  pub base-step : stands base 0 0 cs ≡ true → count + length piece ≤ base → (before out : List ℕ) → messageLength base cs ≤ length out → out ≡ scatter (drop count (basePlaces base cs)) (take j piece) before →
-      Copying (basePlaces base cs) count j m (count + j + (earlier + size)) piece before out (GapSought base cs (count + (j + m)) (earlier + size) (joinedRun w x) xs)
-  base-step stand all before out room now =
-      record {
-        room = rw (part-length j m piece (omega arith)) (omega (arith, base-within stand (omega arith)));
-        placed = λ after. base-placed before out after now;
-        next = base-next;
-      }
+  -- All of it together.
+  pub gap-step : (before out : List ℕ) (g whole : ℕ) → out ≡ scatter (drop count (basePlaces base cs)) (take j piece) before →
+      g + goes (ofSegment 0 (take (length piece - j) (drop (count + j) (basePlaces base cs)))) ≡ whole →
+      GapStep (basePlaces base cs) count j m (count + j + (earlier + size)) piece before out g whole (GapSought base cs (count + (j + m)) (earlier + size) (joinedRun w x) xs)
+  gap-step before out g whole now count-now = record { placed = λ after. step-placed before out after now; counted = step-counted g whole count-now; finished = step-finished g whole count-now; next = step-next }
 
--- The step of `place_chunks`.
-module _ (cs : List Run) (w : Run) (x : ReadSegment) (xs : List ReadSegment) (walk : Walk w (x ∷ xs)) (count j left : ℕ) (s : ChunkSought cs (count + j) left w (x ∷ xs)) (size : ℕ) (e : size ≡ endedLength w x) (piece : List ℕ) (more : j < length piece) (m : ℕ) (share : m ≡ min (size - left) (length piece - j)) where
-  chunk-placed : (before out after : List ℕ) → out ≡ scatter (drop count (places cs)) (take j piece) before →
-      after ≡ stored out (w .at + min left size) (take (j + m - j) (drop j piece)) → after ≡ scatter (drop count (places cs)) (take (j + m) piece) before
-  chunk-placed before out after now then = by (ltb left size) refl
-    where
-      by : (b : Bool) → ltb left size ≡ b → after ≡ scatter (drop count (places cs)) (take (j + m) piece) before
-      by true t =
-          let lt = ltb-true left size t in
-          let from-left : min left size ≡ left = omega arith in
-          placed-more _ count j m _ piece before out after (chunk-here cs (count + j) left w x xs walk s (omega arith)) (omega arith) (omega arith) now (rw from-left at then)
-      by false t = let past = ltb-false left size t in placed-none _ count j m _ piece before out after (omega arith) now then
+-- The last bytes: behind all segments they are one run.
+module _ (all : List ℕ) (count j : ℕ) (r : Run) (piece : List ℕ) (s : GapRun all (count + j) r) (more : j < length piece) (most : length piece - j ≤ r .length) where
+  pub last-placed : (before out after : List ℕ) → out ≡ scatter (drop count all) (take j piece) before → after ≡ stored out (r .at) (take (length piece - j) (drop j piece)) → after ≡ scatter (drop count all) piece before
+  last-placed before out after now then =
+      let whole : j + (length piece - j) ≡ length piece = omega arith in
+      placed-more all count j (length piece - j) r piece before out after (s .seeks) (omega arith) most now then ∙ rw (whole, take-length piece)
 
-  chunk-within-all : (base : ℕ) → stands base 0 0 cs ≡ true → Parted cs w (x ∷ xs) → w .at + min left size + m ≤ messageLength base cs
-  chunk-within-all base stand p =
-      let all = ended-within base cs w stand x xs walk p in
-      let up = rounded-most (endedLength w x) .0 in
+  pub last-counted : (g whole : ℕ) → g + goes (ofSegment 0 (take (length piece - j) (drop (count + j) all))) ≡ whole → g + 1 ≡ whole
+  unfolding ofSegment goes
+  last-counted g whole now =
+      let none : length piece - j - (length piece - j) ≡ 0 = omega arith in
+      let one : goes (ofSegment 0 (take (length piece - j) (drop (count + j) all))) ≡ 1 = goes-gap 0 all (count + j) (length piece - j) (length piece - j) r s (omega arith) (omega arith) ∙ rw none in
       omega arith
 
-  chunk-onward : count + length piece ≤ totalLength cs → j + m < length piece → ChunkSought cs (count + (j + m)) (left + m - size) (joinedRun w x) xs
-  chunk-onward all further =
-      let same : count + j + m ≡ count + (j + m) = omega arith in
-      rw e (rw same at (chunk-next cs (count + j + m) (left + m) w x xs walk (chunk-advance cs (count + j) left m w (x ∷ xs) (omega arith) s) (omega arith)))
+-- What is left to say of numbers.
+pub fits-in : (place message same room kept : ℕ) → place ≤ message → message ≡ same → same ≤ room → kept ≡ room → place ≤ kept
+fits-in place message same room kept a b c d = omega arith
 
-  pub chunk-step : (base : ℕ) → stands base 0 0 cs ≡ true → Parted cs w (x ∷ xs) → count + length piece ≤ totalLength cs → (place : ℕ) → place ≡ min left size → (before out : List ℕ) → messageLength base cs ≤ length out → out ≡ scatter (drop count (places cs)) (take j piece) before →
-      Copying (places cs) count j m (w .at + place) piece before out (ChunkSought cs (count + (j + m)) (left + m - size) (joinedRun w x) xs)
-  chunk-step base stand p all place here before out room now =
-      record {
-        room = rw (part-length j m piece (omega arith)) (omega (arith, chunk-within-all base stand p));
-        placed = rw here (λ after. chunk-placed before out after now);
-        next = chunk-onward all;
-      }
+pub one-more : (g rest whole r m : ℕ) → g + rest ≡ whole → whole ≤ 1048576 → r ≡ cond (eqb m 0) 0 1 → g + r < 4294967296
+one-more g rest whole r m a b e = rw e (by (eqb m 0))
+  where
+    by : (x : Bool) → g + cond x 0 1 < 4294967296
+    by true = omega arith
+    by false = omega arith
 
--- No sum on the way is too large.
-pub left-fits : (left m far j size count total message room most : ℕ) → left ≤ count → m ≡ min far (size - j) → count + size ≤ total → total ≤ message → message ≤ room → room < most → left + m < most
-left-fits left m far j size count total message room most a b c d e f = omega arith
+pub last-fits : (count j earlier size pieces base message same room kept : ℕ) → count + j + (earlier + size) + (base - (count + j)) ≤ message → count + pieces ≤ base → j < pieces → message ≡ same → same ≤ room → kept ≡ room → count + j + earlier + size + (pieces - j) ≤ kept
+last-fits count j earlier size pieces base message same room kept a b c d e f = omega arith
 
--- A piece in two parts: the bytes of the base, and those of the chunks.
-module _ (base : ℕ) (cs : List Run) (stand : stands base 0 0 cs ≡ true) (count m : ℕ) (piece out : List ℕ) where
-  abbrev two-parts : ℕ → List ℕ
-  two-parts behind = scatter (drop behind (places cs)) (drop m piece) (scatter (drop (min count base) (basePlaces base cs)) (take m piece) out)
+pub less-left : (i n : ℕ) → i < n → n - (i + 1) < n - i
+less-left i n h = omega arith
 
-  none-in-base : m ≡ 0 → (behind : ℕ) → scatter (drop behind (places cs)) piece out ≡ two-parts behind
-  none-in-base z behind = rw z (ap (scatter (drop behind (places cs)) piece) (sym (scatter-none (drop (min count base) (basePlaces base cs)) out)))
-
-  drop-base : drop count (basePlaces base cs ++ places cs) ≡ drop (min count base) (basePlaces base cs) ++ drop (count - base) (places cs)
-  drop-base = by (leb count base) refl
-    where
-      long : length (basePlaces base cs) ≡ base
-      long = length-base base cs stand
-
-      by : (b : Bool) → leb count base ≡ b → drop count (basePlaces base cs ++ places cs) ≡ drop (min count base) (basePlaces base cs) ++ drop (count - base) (places cs)
-      by true t =
-          let le = leb-true count base t in
-          let here : min count base ≡ count = omega arith in
-          let none : count - base ≡ 0 = omega arith in
-          rw (here, none) (drop-append-le count (basePlaces base cs) (places cs) (omega (arith, long)))
-      by false t =
-          let gt = leb-false count base t in
-          let all : min count base ≡ length (basePlaces base cs) = omega (arith, long) in
-          let rest : count - base ≡ count - length (basePlaces base cs) = omega (arith, long) in
-          rw (all, drop-length (basePlaces base cs), rest) (drop-behind (basePlaces base cs) (places cs) count (omega (arith, long)))
-
-  pub base-part : (based : Bool) → m ≡ min (cond based (base - count) 0) (length piece) → min count base + m ≤ base
-  base-part true e = omega arith
-  base-part false e = omega arith
-
-  pub chunk-part : (based : Bool) → m ≡ min (cond based (base - count) 0) (length piece) → count + length piece ≤ length (sourcePlaces based base cs) → cond based (count - base) count + (length piece - m) ≤ totalLength cs
-  chunk-part true e h = omega (arith, length-based base cs stand)
-  chunk-part false e h = omega (arith, length-places cs)
-
-  pub in-two : (based : Bool) → m ≡ min (cond based (base - count) 0) (length piece) → scatter (drop count (sourcePlaces based base cs)) piece out ≡ two-parts (cond based (count - base) count)
-  in-two false e = none-in-base (omega arith) count
-  in-two true e = by (leb (length piece) (base - count)) refl
-    where
-      front : length (drop (min count base) (basePlaces base cs)) ≡ base - count
-      front = omega (arith, length-drop (min count base) (basePlaces base cs), length-base base cs stand)
-
-      by : (b : Bool) → leb (length piece) (base - count) ≡ b → scatter (drop count (basePlaces base cs ++ places cs)) piece out ≡ two-parts (count - base)
-      by true t =
-          let le = leb-true (length piece) (base - count) t in
-          let whole : m ≡ length piece = omega arith in
-          rw (drop-base, whole, take-length piece, drop-length piece, scatter-none) (scatter-first _ _ piece out (omega (arith, front)))
-      by false t =
-          let gt = leb-false (length piece) (base - count) t in
-          let part : m ≡ base - count = omega arith in
-          let taken : length (take m piece) ≡ length (drop (min count base) (basePlaces base cs)) = omega (arith, length-take-le m piece (omega arith), front) in
-          rw drop-base
-          (ap (λ (v : List ℕ). scatter (drop (min count base) (basePlaces base cs) ++ drop (count - base) (places cs)) v out) (sym (take-append-drop m piece))
-          ∙ scatter-append _ (take m piece) (drop m piece) out
-          ∙ rw (taken, drop-at (drop (min count base) (basePlaces base cs)) (drop (count - base) (places cs)) _ refl, scatter-first (drop (min count base) (basePlaces base cs)) (drop (count - base) (places cs)) (take m piece) out (omega (arith, taken))))
-
--- There are no more places than the message has bytes.
-total-rounded : (cs : List Run) → totalLength cs ≤ roundedTotal cs
-unfolding totalLength roundedTotal
-total-rounded [] = omega arith
-total-rounded (c ∷ cs) = let up = rounded-most (c .length) .0 in omega (arith, total-rounded cs)
-
-pub source-most : (based : Bool) (base : ℕ) (cs : List Run) → stands base 0 0 cs ≡ true → length (sourcePlaces based base cs) ≤ messageLength base cs
-source-most true base cs e = omega (arith, length-based base cs e, total-rounded cs)
-source-most false base cs e = omega (arith, length-places cs, total-rounded cs)
+pub not-all : (j m far size : ℕ) → m ≡ min far (size - j) → j < size → (j + m ≡ size → ⊥) → j + m < size
+not-all j m far size e h n = omega arith

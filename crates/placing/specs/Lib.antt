@@ -1,1 +1,3 @@
+pub mod Segments
+pub mod Goes
 pub mod Internal

@@ -82,7 +82,7 @@ reply-part s p reply t fits e = go (chunk-front 1 16 (drop p s))
     go (laws.ChunkFront.unmarked k f m) = absurd (never (sym (reply-refused (drop p s) k f) ∙ e))
     go (laws.ChunkFront.full f m h) = absurd (omega arith)
     go (laws.ChunkFront.uncounted k f m h q) = absurd (never (sym (reply-refused (drop p s) k f) ∙ e))
-    go (laws.ChunkFront.goes c u f m h q) =
+    go (laws.ChunkFront.another c u f m h q) =
         chunked c u (chunk-of 16 (drop p s) c u m q) (sym (reply-chunk (drop p s) c u m q) ∙ e)
 
 -- Where the parts of a header lie.

@@ -1,13 +1,13 @@
 -- The page to read first: every top theorem once more, each with the sentence that it answers. Its proof is named behind the last `=`.
 -- Demand 1 is met by the contracts of the calls themselves, which ask nothing of a caller.
 -- Assumes nothing.
-use mathlib.Core.Path.{_≡_}
+use mathlib.Core.Path.{_≡_, refl}
 use mathlib.Core.Bool.{true, false, _&&_}
-use mathlib.Core.List.{List, [], _∷_, _++_}
+use mathlib.Core.List.{List, [], _∷_, _++_, map}
 use mathlib.Core.Option.{some}
 use Prim.Native.Nat.{ℕ, _+_, _-_, _/_, _≤_}
 use lib.ListN.{length, getD, take, drop, replicate}
-use Rattle.wire.specs.Wire.{wordAt}
+use Rattle.wire.specs.Wire.{wordAt, joined}
 use Rattle.wire.specs.Fits.{AllBytes, AllWords, All, Word32}
 use Rattle.answers.specs.Answers.{unlessRefused}
 use Rattle.wire.specs.declared.Segment.{Segment}
@@ -30,9 +30,15 @@ use Rattle.error_reply.specs.Reply.{replyKindFor, errorReply, errorReplyNumber,
 use Rattle.error_reply.specs.Meant.{meant}
 use Rattle.error_reply.specs.declared.ReplyKind.the-variants as reply
 use Rattle.error_reply.proofs.ReplyRead as reply-read
-use Rattle.layout.specs.Layout.{otherChunks}
+use Rattle.layout.specs.Places.{from}
+use Rattle.layout.specs.Layout.{otherChunks, basePlaces}
 use Rattle.layout.specs.Once.{Once}
+use Rattle.placing.specs.Segments.{segmentPlaces, segmentNumbers, positionLength}
+use Rattle.placing.specs.Goes.{Fewest}
+use Rattle.assembly_state.specs.State.{State}
 use Rattle.assembly_start.specs.Start.{baseOf, startNumber, startAnswer}
+use Rattle.assembly.specs.Assembly.{readsOf, chunksOf, pulledOf, canArise, pieceNumber, pulledBytesOf, pieceGoes, pieceAnswer}
+use Rattle.assembly.proofs.Goes as piece-goes
 use Rattle.returned.specs.Returned.{chunkLength, replyChunkLength, returnedAnswer, returnedWordsNumber, returnedWordsPlaces}
 use Rattle.returned.specs.Filled.{filled, Fills}
 use Rattle.returned.proofs.Fills as fills
@@ -46,7 +52,7 @@ use Rattle.theorems.specs.Calls.{Call, startThen}
 use Rattle.theorems.specs.Cuts.{CutOf}
 use Rattle.theorems.specs.Demands.{takenBytes, Finished, Unchanged}
 use Rattle.theorems.specs.Exports.{exportThen}
-use Rattle.theorems.specs.Examples.{Holds, examples, numbers, edges, returnedCases}
+use Rattle.theorems.specs.Examples.{Holds, examples, numbers, edges, returnedCases, goesCases}
 use Rattle.theorems.proofs.Message as message
 use Rattle.theorems.proofs.Demand3 as demand-three
 use Rattle.theorems.proofs.Exports as exports
@@ -209,3 +215,43 @@ exports-order-1-written-read = returns.exports-written-returned
 -- What order 1 says, case by case.
 pub order-1-cases : All Holds returnedCases
 order-1-cases = worked.returned
+
+-- Order 2: "No answer number, byte or count may change": the number is the one that it was, and the definitions of bytes and count were not touched.
+pub order-2-number : (s : State) (room size : ℕ) → pieceAnswer s room size .number ≡ pieceNumber s room size
+order-2-number = λ s room size. refl
+
+-- "Return with each piece how many goes it took: the fewest such runs that make it up": runs of one segment and no gap, over every way to make the piece up.
+pub order-2-fewest : (s : State) (room size : ℕ) → pieceNumber s room size ≡ 0 → Fewest (take size (drop (s .taken) (pulledBytesOf s))) (pieceGoes s room size)
+order-2-fewest = piece-goes.fewest-goes
+
+-- "at most 31": for every state, buffer length and piece. (That 31 is reached is a case of `order-2-cases`.)
+pub order-2-at-most-31 : (s : State) (room size : ℕ) → pieceGoes s room size ≤ 31
+order-2-at-most-31 = piece-goes.at-most-31
+
+-- "and 0 for an empty or a refused piece"
+pub order-2-empty : (s : State) (room : ℕ) → pieceGoes s room 0 ≡ 0
+order-2-empty = piece-goes.none-for-empty
+
+pub order-2-refused : (s : State) (room size : ℕ) → (pieceNumber s room size ≡ 0 → ⊥) → pieceGoes s room size ≡ 0
+order-2-refused = piece-goes.none-for-refused
+
+-- The bytes that are counted are those that the piece writes, each at its place.
+pub order-2-counted : (s : State) (room size : ℕ) → pieceNumber s room size ≡ 0 → map (λ b. b .place) (take size (drop (s .taken) (pulledBytesOf s))) ≡ take size (drop (s .taken) (pulledOf s))
+order-2-counted = piece-goes.counted-there
+
+-- And each is counted as of its own segment, by list order.
+pub order-2-list-order : (s : State) → canArise s ≡ true → map (λ b. b .segment) (pulledBytesOf s) ≡ segmentNumbers 0 (readsOf s)
+order-2-list-order = piece-goes.in-list-order
+
+-- The places of all segments joined are the pulled places; each segment's own are where document 01 puts its bytes.
+pub order-2-joined : (s : State) → canArise s ≡ true → joined (λ ps. ps) (segmentPlaces (s .kind) (s .base) (readsOf s)) ≡ pulledOf s
+order-2-joined = piece-goes.joined-places
+
+pub order-2-own-places : (s : State) (before : List ReadSegment) (x : ReadSegment) (behind : List ReadSegment) → canArise s ≡ true → readsOf s ≡ before ++ (x ∷ behind) →
+    ((x .position ≡ 0 → ⊥) → getD (segmentPlaces (s .kind) (s .base) (readsOf s)) (length before) [] ≡ from (x .position + positionLength (x .position) before) (x .target .length))
+    × (x .position ≡ 0 → getD (segmentPlaces (s .kind) (s .base) (readsOf s)) (length before) [] ≡ take (x .target .length) (drop (positionLength (x .position) before) (basePlaces (s .base) (chunksOf s))))
+order-2-own-places = piece-goes.own-places
+
+-- Order 2, case by case in numbers: 31 among them.
+pub order-2-cases : All Holds goesCases
+order-2-cases = worked.goes-taken

@@ -18,11 +18,13 @@ use Rattle.wire.specs.Wire as wire
 use Rattle.wire.specs.Words.{segmentIn, segmentWords, readSegmentIn, readSegmentWords}
 use Rattle.chunk_lists.specs.Words.{readsIn, readsWords, segmentsIn, segmentsWords}
 use Rattle.assembly_start.specs.Start.{startNumber, startBuffer, startWrites, startWords}
-use Rattle.assembly.specs.Assembly.{canArise, pieceNumber, pieceBuffer, messageNumber, messagePart, pieceWords}
+use Rattle.placing.specs.Segments.{dealt}
+use Rattle.placing.specs.Goes.{ofSegment, pulledBytes, follows, begunBehind, goes}
+use Rattle.assembly.specs.Assembly.{canArise, pieceNumber, pieceGoes, pieceBuffer, messageNumber, messagePart, pieceWords}
 use Rattle.assembly_state.specs.Words.{stateKind, partsIn, stateWords, withTaken}
 use Rattle.theorems.specs.Calls.{runCalls}
 use Rattle.wire.specs.Fits.{All}
-use Rattle.theorems.specs.Examples.{Holds, entryWords, examples, numbers, edges, returnedCases}
+use Rattle.theorems.specs.Examples.{Holds, entryWords, examples, numbers, edges, returnedCases, pieceAnswers, goesCases}
 use Rattle.header.specs.Words.{kindIn, headerIn, headerWords}
 use Rattle.c_setup.specs.Words.{agreementWords}
 use Rattle.returned.specs.Returned.{any, pairs, chunkPairs, filledBehindGap, mismatch, chunkLength, returnedNumber, returnedAnswer}
@@ -46,3 +48,8 @@ edged = ((refl, refl), ((refl, refl), ((refl, refl), ((refl, refl), ((refl, refl
 pub returned : All Holds returnedCases
 unfolding All words joined wordBytes wordAt headerOf contentOf runs withinLimits total any pairs chunkPairs filledBehindGap mismatch chunkLength returnedNumber returnedAnswer headerIn kindIn headerWords readsIn segmentsIn readSegmentIn segmentIn each readsWords segmentsWords readSegmentWords segmentWords replyKindFor replyKindOf granted errorReply errorReplyNumber errorReplyAnswer
 returned = (refl, (refl, (refl, (refl, (refl, (refl, (refl, (refl, (refl, (refl, (refl, (refl, (refl, (refl, (refl, (refl, (refl, (refl, (refl, (refl, (refl, (refl, (refl, (refl, (refl, (refl, (refl, (refl, (refl, (refl, (refl, (refl, (refl, (refl, (refl, (refl, (refl, (refl, (refl, (refl, (refl, (refl, (refl, (refl, (refl, (refl, (refl, (refl, (refl, (refl, (refl, (refl, (refl, (refl, (refl, (refl, (refl, (refl, (refl, (refl, ((refl, refl), ((refl, refl), ((refl, refl), ((refl, refl), (refl, tt)))))))))))))))))))))))))))))))))))))))))))))))))))))))))))))))))
+
+-- Order 2, case by case.
+pub goes-taken : All Holds goesCases
+unfolding All words joined wordBytes readFrame byProcedure threeParts readList readEntry segments counted each writeList replyChunk markerOf wordOf wordAt segmentAt readSegmentAt positionsNumber entryWords segmentIn segmentWords readSegmentIn readSegmentWords readsIn readsWords stateKind partsIn stateWords startWords withTaken pieceWords wire.stored startNumber canArise pieceNumber pieceGoes pieceAnswers anyAtZero zeroLength joinChunk otherChunks roundedUp roundedTotal stands placeNumber places gaps basePlaces pulledPlaces from dealt ofSegment pulledBytes follows begunBehind goes
+goes-taken = (refl, (refl, (refl, (refl, (refl, (refl, (refl, (refl, (refl, (refl, (refl, (refl, (refl, (refl, (refl, (refl, (refl, (refl, (refl, (refl, (refl, (refl, (refl, (refl, (refl, (refl, (refl, (refl, tt))))))))))))))))))))))))))))

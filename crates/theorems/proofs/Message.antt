@@ -22,7 +22,7 @@ use Rattle.layout.specs.declared.Run.{Run}
 use Rattle.layout.proofs.Scatter.{scatter-none, length-places}
 use Rattle.layout.specs.Once.{Once}
 use Rattle.layout.proofs.Once.{once}
-use Rattle.layout.proofs.Placed.{Placed, all-placed, length-base}
+use Rattle.layout.proofs.Placed.{Placed, above-gaps, all-placed, length-base}
 use Rattle.assembly_start.specs.Start.{baseOf, startWrites, startAnswer}
 use Rattle.wire.specs.Fits.{AllBytes}
 use Rattle.theorems.specs.Calls.{Call, Ending, gives, startThen}
@@ -30,7 +30,7 @@ use Rattle.theorems.specs.Tally.{pulledPlacesOf, tallyBuffer, isFull, ta
 use Rattle.theorems.specs.Demands.{takenBytes, Finished}
 use Rattle.theorems.specs.Message.{messageFrom, wholeMessage, messageOf}
 use Rattle.layout.proofs.Apart.{Apart, scatter-comm, apart-by, above-from, below-from, apart-right, apart-left, apart-nil, apart-sym, scatter-join}
-use Rattle.theorems.proofs.MessageBuffer.{message-buffer, above-gaps, above-pads}
+use Rattle.theorems.proofs.MessageBuffer.{message-buffer, above-pads}
 use Rattle.theorems.proofs.Tallied.{length-tally}
 use Rattle.theorems.proofs.TallySettles.{left, settled}
 use Rattle.theorems.proofs.Started.{passed, uncut-tallied}

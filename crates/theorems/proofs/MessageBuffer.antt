@@ -13,7 +13,7 @@ use Rattle.layout.specs.Internal.Walks.{totalLength}
 use Rattle.layout.specs.declared.Run.{Run}
 use Rattle.layout.proofs.Scatter.{scatter-from, length-from, from-add, length-scatter}
 use Rattle.layout.proofs.ChunksStand.{rounded-most}
-use Rattle.layout.proofs.Placed.{Placed}
+use Rattle.layout.proofs.Placed.{Placed, above-gaps}
 use Rattle.theorems.specs.Message.{messageFrom}
 use Rattle.layout.proofs.Apart.{Apart, NotBelow, scatter-comm, apart-by, above-append, above-from, below-from, scatter-join}
 
@@ -25,11 +25,6 @@ pub above-places : (n a k : ℕ) (cs : List Run) → n ≤ a → Placed a k cs �
 unfolding places Placed NotBelow
 above-places n a k [] h s = tt
 above-places n a k (c ∷ cs) h s = above-append n (from (c .at) (c .length)) (places cs) (above-from n (c .at) (c .length) (omega arith)) (above-places n ((c .at) + roundedUp (c .length)) _ cs (omega arith) (s .2))
-
-pub above-gaps : (n a m k : ℕ) (cs : List Run) → n ≤ a → Placed a k cs → NotBelow n (places (gaps a m cs))
-unfolding places gaps Placed NotBelow
-above-gaps n a m k [] h s = above-append n (from a (m - a)) [] (above-from n a (m - a) h) tt
-above-gaps n a m k (c ∷ cs) h s = above-append n (from a ((c .at) - a)) _ (above-from n a ((c .at) - a) h) (above-gaps n ((c .at) + roundedUp (c .length)) m _ cs (omega arith) (s .2))
 
 pub above-pads : (n a k : ℕ) (cs : List Run) → n ≤ a → Placed a k cs → NotBelow n (places (paddings cs))
 unfolding places paddings Placed NotBelow

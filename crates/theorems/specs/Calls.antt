@@ -4,7 +4,7 @@ use mathlib.Core.List.{List, [], _∷_}
 use lib.ListN.{length}
 use Rattle.reader.specs.Frame.{readFrame}
 use Rattle.assembly_start.specs.Start.{startBuffer, startAnswer}
-use Rattle.assembly.specs.Assembly.{pieceNumber, pieceBuffer, messageNumber, messagePart, pieceWords}
+use Rattle.assembly.specs.Assembly.{pieceAnswer, pieceBuffer, messageNumber, messagePart, pieceWords}
 use Rattle.assembly_state.specs.Words.{stateIn}
 
 -- "taking a piece, empty ones too, and asking for the message"
@@ -36,11 +36,11 @@ answered o e = record { outcomes = o ∷ e .outcomes; count = e .count; buffer =
 abbrev pub askOutcome : List ℕ → List ℕ → Outcome
 askOutcome w out = gives (messageNumber (stateIn w) (length out)) (messagePart (stateIn w) out)
 
--- "Each gets the state last given back and the buffer as last left; nobody else writes either meanwhile.": what the contracts of the calls hand on.
+-- "Each gets the state last given back and the buffer as last left; nobody else writes either meanwhile.": what the contracts of the calls hand on. "demand 3 leaves the goes out" (order 2): of the answer to a piece only the number is seen.
 unfoldable pub runCalls : List ℕ → List ℕ → List Call → Ending
 runCalls w out [] = record { outcomes = []; count = stateIn w .taken; buffer = out; asked = askOutcome w out }
 runCalls w out (piece v ∷ calls) =
-    answered (gives (pieceNumber (stateIn w) (length out) (length v)) []) (runCalls (pieceWords w (length out) (length v)) (pieceBuffer (stateIn w) v out) calls)
+    answered (gives (pieceAnswer (stateIn w) (length out) (length v) .number) []) (runCalls (pieceWords w (length out) (length v)) (pieceBuffer (stateIn w) v out) calls)
 runCalls w out (asking ∷ calls) = answered (askOutcome w out) (runCalls w out calls)
 
 -- "After it comes any list of these calls": a start over a frame and a buffer, then the calls.

@@ -8,11 +8,12 @@ use Rattle.wire.specs.Wire.{words, zeroSegment, zeroReadSegment}
 use Rattle.wire.specs.declared.Segment.{Segment}
 use Rattle.wire.specs.declared.ReadSegment.{ReadSegment}
 use Rattle.reader.specs.Frame.{readFrame, readAnswer, payloadOf}
-use Rattle.header.specs.Content.{headerOf, nothing}
+use Rattle.header.specs.Content.{headerOf}
 use Rattle.header.specs.declared.Header.{Header}
 use Rattle.header.specs.declared.Kind.the-variants.{Msg, Nomsg, Error}
 use Rattle.writer.specs.Write.{writeAnswer, writeBuffer}
-use Rattle.assembly.specs.Assembly.{pieceNumber}
+use Rattle.assembly.specs.Assembly.{pieceAnswer, pieceWords}
+use Rattle.assembly.specs.declared.PieceAnswer.{PieceAnswer}
 use Rattle.assembly_state.specs.Words.{stateIn}
 use Rattle.assembly_start.specs.Start.{startAnswer}
 use Rattle.theorems.specs.Calls.{Call, piece, asking, Outcome, gives, startThen}
@@ -69,12 +70,19 @@ pub data Example : Type 0 where
   start-words : List ℕ → ℕ → List (ℕ × ℕ) → Example
   -- a piece of so many bytes, for a state that lies in these words and a buffer of so many bytes, gives this number
   piece-gives : List ℕ → ℕ → ℕ → ℕ → Example
+  -- pieces of so many bytes, one after the other, for a state that lies in these words and a buffer of so many bytes, are answered so
+  pieces-take : List ℕ → ℕ → List ℕ → List PieceAnswer → Example
   -- a header that was sent and the reply's: so many bytes landed in each write chunk and in the reply chunk
   lands : Header → Header → List ℕ → ℕ → Example
   -- they are refused with this number
   lands-not : Header → Header → ℕ → Example
   -- the same of words that are lent: the number, and what five places hold then that held 9
   lends : List ℕ → List ℕ → ℕ → List ℕ → Example
+
+-- The answers to pieces of so many bytes, each over the words that the one before it left.
+unfoldable pub pieceAnswers : List ℕ → ℕ → List ℕ → List PieceAnswer
+pieceAnswers w room [] = []
+pieceAnswers w room (size ∷ sizes) = pieceAnswer (stateIn w) room size ∷ pieceAnswers (pieceWords w room size) room sizes
 
 -- What it means that a worked example holds.
 abbrev pub Holds : Example → Type 0
@@ -100,7 +108,8 @@ Holds (agrees client server both w) = (agreement client server ≡ both) × (agr
 Holds (replies-are kinds) = map replyKindOf (from 0 22) ≡ kinds
 Holds (reply-gives frame number limit room refusal) = errorReplyAnswer frame number limit room ≡ record { number = refusal; length = 0 }
 Holds (start-words frame room values) = All (λ x. getD (startAnswer (readFrame frame) room .state) (x .0) 0 ≡ x .1) values
-Holds (piece-gives w room size number) = pieceNumber (stateIn w) room size ≡ number
+Holds (piece-gives w room size number) = pieceAnswer (stateIn w) room size .number ≡ number
+Holds (pieces-take w room sizes answers) = pieceAnswers w room sizes ≡ answers
 Holds (lands sent reply writes n) = returnedAnswer sent reply ≡ record { writes = writes; reply = n; number = 0 }
 Holds (lands-not sent reply number) = returnedAnswer sent reply ≡ record { writes = 0 ∷ 0 ∷ 0 ∷ 0 ∷ []; reply = 0; number = number }
 Holds (lends sent reply number landed) =
@@ -413,4 +422,56 @@ returnedCases =
     ∷ lends (set (headerWords (counting Msg 0 5 noCounts false 0)) kindAt 4) (headerWords (chunks [])) 20 (replicate 5 9)
     ∷ lends (headerWords (counting Msg 0 5 noCounts false 0)) (set (headerWords (chunks [])) replyPresentAt 2) 20 (replicate 5 9)
     ∷ reply-gives c3 26 32 28 20
+    ∷ []
+
+-- A piece that is taken in so many goes.
+abbrev pub took : ℕ → PieceAnswer
+took goes = record { number = 0; goes = goes }
+
+-- The words behind a start over a frame and a buffer of so many bytes.
+abbrev pub started : List ℕ → ℕ → List ℕ
+started frame room = startAnswer (readFrame frame) room .state
+
+-- MSG with 12 inline bytes, and NOMSG, each with these read entries, in a buffer of so many bytes, and pieces of these sizes: so many goes each.
+abbrev pub msgTakes : List (ℕ × ℕ) → ℕ → List ℕ → List ℕ → Example
+msgTakes entries room sizes numbers-of-goes = pieces-take (started (call 0 entries twelve) room) room sizes (map took numbers-of-goes)
+
+abbrev pub nomsgTakes : List (ℕ × ℕ) → ℕ → List ℕ → List ℕ → Example
+nomsgTakes entries room sizes numbers-of-goes = pieces-take (started (call 1 entries []) room) room sizes (map took numbers-of-goes)
+
+-- One segment at position 0 and 15 other chunks, each with base bytes before and behind it.
+abbrev pub parted15 : List (ℕ × ℕ)
+parted15 = (0, 64) ∷ map (λ i. (4 + 8 * i, 4)) (from 0 15)
+
+-- What order 2 says: no gap where a chunk is empty, one where it is not; runs of base and chunks; segments that touch; pieces that begin and end inside a run; the bound; empty and refused pieces; memory that goes on where the segment before it ends. But for the last two all segments have one handle and one offset.
+abbrev pub goesCases : List Example
+goesCases =
+    nomsgTakes ((0, 12) ∷ (8, 0) ∷ []) 12 (12 ∷ []) (1 ∷ [])
+    ∷ nomsgTakes ((0, 12) ∷ (8, 0) ∷ (8, 0) ∷ []) 12 (12 ∷ []) (1 ∷ [])
+    ∷ nomsgTakes ((0, 12) ∷ (8, 0) ∷ (8, 5) ∷ []) 20 (12 ∷ 5 ∷ []) (2 ∷ 1 ∷ [])
+    ∷ nomsgTakes ((0, 12) ∷ (8, 5) ∷ (8, 0) ∷ []) 20 (12 ∷ 5 ∷ []) (2 ∷ 1 ∷ [])
+    ∷ nomsgTakes ((0, 12) ∷ (4, 4) ∷ (8, 4) ∷ []) 20 (12 ∷ 8 ∷ []) (2 ∷ 2 ∷ [])
+    ∷ nomsgTakes ((0, 12) ∷ (4, 3) ∷ (8, 0) ∷ (8, 4) ∷ []) 20 (19 ∷ []) (4 ∷ [])
+    ∷ nomsgTakes ((0, 12) ∷ (4, 4) ∷ (8, 0) ∷ (12, 4) ∷ []) 20 (20 ∷ []) (5 ∷ [])
+    ∷ nomsgTakes ((0, 8) ∷ (0, 4) ∷ (8, 5) ∷ []) 20 (17 ∷ []) (3 ∷ [])
+    ∷ nomsgTakes ((0, 12) ∷ (8, 5) ∷ []) 20 (17 ∷ []) (3 ∷ [])
+    ∷ nomsgTakes ((0, 4) ∷ (0, 8) ∷ (8, 5) ∷ []) 20 (17 ∷ []) (4 ∷ [])
+    ∷ nomsgTakes ((0, 4) ∷ (0, 0) ∷ (0, 8) ∷ (8, 5) ∷ []) 20 (17 ∷ []) (4 ∷ [])
+    ∷ nomsgTakes ((0, 12) ∷ (8, 5) ∷ []) 20 (4 ∷ 6 ∷ 0 ∷ 7 ∷ []) (1 ∷ 2 ∷ 0 ∷ 2 ∷ [])
+    ∷ nomsgTakes ((0, 0) ∷ (0, 12) ∷ (0, 0) ∷ (8, 5) ∷ []) 20 (12 ∷ 2 ∷ 3 ∷ []) (2 ∷ 1 ∷ 1 ∷ [])
+    ∷ nomsgTakes ((0, 12) ∷ (12, 4) ∷ []) 16 (16 ∷ []) (2 ∷ [])
+    ∷ msgTakes ((8, 4) ∷ (12, 4) ∷ []) 20 (8 ∷ []) (2 ∷ [])
+    ∷ msgTakes ((8, 5) ∷ (16, 4) ∷ []) 24 (9 ∷ []) (2 ∷ [])
+    ∷ msgTakes ((8, 2) ∷ (8, 3) ∷ []) 20 (5 ∷ []) (2 ∷ [])
+    ∷ msgTakes ((8, 2) ∷ (8, 0) ∷ (8, 3) ∷ []) 20 (1 ∷ 2 ∷ 2 ∷ []) (1 ∷ 2 ∷ 1 ∷ [])
+    ∷ msgTakes (replicate 16 (8, 1)) 28 (16 ∷ []) (16 ∷ [])
+    ∷ msgTakes (replicate 16 (8, 0)) 12 (0 ∷ []) (0 ∷ [])
+    ∷ nomsgTakes parted15 124 (124 ∷ []) (31 ∷ [])
+    ∷ nomsgTakes parted15 124 (63 ∷ 0 ∷ 61 ∷ []) (16 ∷ 0 ∷ 16 ∷ [])
+    ∷ pieces-take (started (call 1 ((0, 12) ∷ (8, 5) ∷ []) []) 20) 20 (18 ∷ 17 ∷ 1 ∷ 0 ∷ []) (record { number = 18; goes = 0 } ∷ took 3 ∷ record { number = 18; goes = 0 } ∷ took 0 ∷ [])
+    ∷ pieces-take (started (call 1 ((0, 12) ∷ (8, 5) ∷ []) []) 20) 24 (17 ∷ []) (record { number = 17; goes = 0 } ∷ [])
+    ∷ pieces-take (started (call 1 ((0, 12) ∷ (8, 5) ∷ []) []) 20) 24 (0 ∷ []) (record { number = 17; goes = 0 } ∷ [])
+    ∷ pieces-take (replicate 103 0 ++ (2 ∷ [])) 0 (0 ∷ []) (record { number = 17; goes = 0 } ∷ [])
+    ∷ pieces-take (started (words (0x2a ∷ 1 ∷ 0x20 ∷ 0 ∷ 1 ∷ 4 ∷ 7 ∷ 3 ∷ 0 ∷ 9 ∷ 1 ∷ 4 ∷ 7 ∷ 5 ∷ 0 ∷ 12 ∷ 0 ∷ 0 ∷ 0 ∷ []) ++ four) 12) 12 (8 ∷ []) (took 2 ∷ [])
+    ∷ pieces-take (started (words (0x2a ∷ 1 ∷ 0x20 ∷ 1 ∷ 1 ∷ 0 ∷ 7 ∷ 4 ∷ 0 ∷ 9 ∷ 1 ∷ 0 ∷ 7 ∷ 8 ∷ 0 ∷ 13 ∷ 0 ∷ 0 ∷ 0 ∷ [])) 12) 12 (12 ∷ []) (took 2 ∷ [])
     ∷ []

@@ -5,7 +5,7 @@ use lib.ListN.{length, take}
 use Rattle.answers.specs.Answers.{unlessRefused}
 use Rattle.reader.specs.Frame.{readFrame}
 use Rattle.assembly_start.specs.Start.{startBuffer, startWords}
-use Rattle.assembly.specs.Assembly.{pieceNumber, pieceBuffer, messageNumber, pieceWords}
+use Rattle.assembly.specs.Assembly.{pieceAnswer, pieceBuffer, messageNumber, pieceWords}
 use Rattle.assembly_state.specs.Words.{stateIn}
 use Rattle.c_assembly.specs.Message.{messageSize}
 use Rattle.theorems.specs.Calls.{Call, piece, asking, Outcome, Ending, gives, answered}
@@ -19,7 +19,7 @@ exportOutcome w out size =
 unfoldable pub runExports : List ℕ → List ℕ → ℕ → List Call → Ending
 runExports w out size [] = record { outcomes = []; count = stateIn w .taken; buffer = out; asked = exportOutcome w out size }
 runExports w out size (piece v ∷ calls) =
-    answered (gives (pieceNumber (stateIn w) (length out) (length v)) []) (runExports (pieceWords w (length out) (length v)) (pieceBuffer (stateIn w) v out) size calls)
+    answered (gives (pieceAnswer (stateIn w) (length out) (length v) .number) []) (runExports (pieceWords w (length out) (length v)) (pieceBuffer (stateIn w) v out) size calls)
 runExports w out size (asking ∷ calls) =
     answered (exportOutcome w out size) (runExports w out (messageSize (stateIn w) (length out) size) calls)
 

@@ -274,8 +274,10 @@ fn assembled(text: &[u8], frame: &[u8], first: &[u8], second: &[u8]) {
     let message = assembly::message(&state, &space);
     name(text);
     value(started.number as u64);
-    value(one as u64);
-    value(two as u64);
+    value(one.number as u64);
+    value(one.goes as u64);
+    value(two.number as u64);
+    value(two.goes as u64);
     value(number as u64);
     value(message.len() as u64);
     bytes(message);

@@ -21,7 +21,7 @@ place-base-requires c κs =
 returns : tie.Need-returns
 returns c =
     let a = c .before .before .before .before .before .before .before .before .before .before .before .before .before .args in
-    start-writes (a .base) (otherChunks (take (a .n) (readsIn (now (a .words))))) (drop (a .end) (now (a .frame))) _ _ _ (rw (part-from (a .end) (now (a .frame))) at (c .before .before .before .before .before .before .before .place-base .ensures)) (c .before .before .clear-paddings .ensures)
+    start-writes (a .base) (otherChunks (take (a .n) (readsIn (now (a .words))))) (drop (a .end) (now (a .frame))) _ _ _ (rw (part-from (a .end) (now (a .frame))) at (c .before .before .before .before .before .before .before .place-base .ensures .1)) (c .before .before .clear-paddings .ensures)
 
 pub write-base-and-padding-spec : {M : Type 1} → statement M
 write-base-and-padding-spec =

@@ -15,7 +15,7 @@ use Rattle.layout.proofs.check_chunks.Statement.{statement}
 use Rattle.layout.proofs.check_chunks.Tie as tie
 
 abbrev Inv-loop : tie.InvT-loop
-Inv-loop words n base w₀ earlier₀ i₀ w earlier i = (i ≤ n) × Along (take n (readsIn words)) i earlier w × Stood base (otherChunks (take n (readsIn words))) w earlier (drop i (take n (readsIn words)))
+Inv-loop words n base w₀ earlier₀ i₀ w earlier i = (i ≤ n) × Along (drop i (take n (readsIn words))) i earlier w × Stood base (otherChunks (take n (readsIn words))) w earlier (drop i (take n (readsIn words)))
 
 abbrev μ-loop : tie.MeasureT-loop
 μ-loop words n base w₀ earlier₀ i₀ w earlier i = n - i

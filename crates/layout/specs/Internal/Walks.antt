@@ -1,15 +1,18 @@
 -- What the functions under the layout answer, from the definitions.
 use Prim.Native.Nat.{ℕ, _+_, _<_}
-use mathlib.Core.Bool.{Bool, true, cond}
+use mathlib.Core.Bool.{Bool, true, cond, _&&_}
 use mathlib.Core.List.{List, [], _∷_}
 use lib.Dec.{eqb}
 use Rattle.wire.specs.declared.ReadSegment.{ReadSegment}
+use Rattle.chunk_lists.specs.Lists.{positionsNumber}
 use Rattle.header.specs.declared.Kind.{Kind}
-use Rattle.layout.specs.Layout.{run, anyAtZero, zeroLength, roundedTotal, stands, messageLength, placeNumber}
+use Rattle.layout.specs.Layout.{run, anyAtZero, zeroLength, otherChunks, roundedTotal, stands, messageLength, placeNumber}
 use Rattle.layout.specs.declared.Run.{Run}
 use Rattle.layout.specs.declared.Sums.{Sums}
 use Rattle.layout.specs.declared.ChunkCheck.{ChunkCheck}
 use Rattle.layout.specs.declared.ChunkCheck.the-variants.{Stands, Overlaps}
+use Rattle.layout.specs.declared.ReadsCheck.{ReadsCheck}
+use Rattle.layout.specs.declared.ReadsCheck.the-variants.{Fine, Faulty}
 use Rattle.layout.specs.declared.LayoutCheck.{LayoutCheck}
 use Rattle.layout.specs.declared.LayoutCheck.the-variants.{Holds, Refused}
 
@@ -51,6 +54,11 @@ pub record Near (x : ReadSegment) : Type 0 where
 -- The chunks stand, with the sum of their rounded lengths.
 abbrev pub chunkCheck : ℕ → List Run → ChunkCheck
 chunkCheck base cs = cond (stands base 0 0 cs) (Stands (roundedTotal cs)) Overlaps
+
+-- The positions are in order and the chunks stand, with the sums of both.
+unfoldable pub readsCheck : ℕ → List ReadSegment → ReadsCheck
+readsCheck base reads =
+    cond (eqb (positionsNumber 0 reads 0) 0 && stands base 0 0 (otherChunks reads)) (Fine (record { sums = sumsOf reads; chunks = roundedTotal (otherChunks reads) })) Faulty
 
 -- The length of the message, or the number of the check that fails.
 unfoldable pub layoutCheck : Kind → ℕ → Bool → List Run → ℕ → LayoutCheck
