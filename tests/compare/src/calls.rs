@@ -1,5 +1,5 @@
 //! What an implementation under comparison has: the calls of include/eoswynnor.h. Each answers its
-//! number and stores what it makes.
+//! number, for a piece with the goes beside it, and stores what it makes.
 //!
 //! All is lent for writing, also what a call may only read: an implementation that changes it can
 //! then be written, and the comparison afterwards is one that the compiler may not leave out.
@@ -32,7 +32,7 @@ pub trait ReplyCalls {
 
 pub trait AssemblyCalls {
     fn start(&self, frame: &mut [u8], out: &mut [u8], state: &mut ffi::State) -> u32;
-    fn take_piece(&self, state: &mut ffi::State, piece: &mut [u8], out: &mut [u8]) -> u32;
+    fn take_piece(&self, state: &mut ffi::State, piece: &mut [u8], out: &mut [u8]) -> ffi::PieceAnswer;
     fn message(&self, state: &mut ffi::State, out: &mut [u8], length: &mut usize) -> u32;
 }
 

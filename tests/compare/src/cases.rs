@@ -1,6 +1,7 @@
 //! The families of cases. Fixed sets first, then `cases` random ones in each random family.
 
 pub mod assembly;
+pub mod goes;
 pub mod header;
 pub mod reply;
 pub mod returned;
@@ -42,5 +43,6 @@ pub fn run<C: Calls>(check: &mut Checker<C>, seed: u64, cases: u64) -> Outcome {
     setup::run(check, rng, cases)?;
     reply::run(check, rng, cases)?;
     assembly::run(check, rng, cases)?;
+    goes::run(check, rng, cases)?;
     returned::run(check, rng, cases)
 }

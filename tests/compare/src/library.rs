@@ -66,7 +66,7 @@ impl AssemblyCalls for Library {
     }
 
     #[inline(always)]
-    fn take_piece(&self, state: &mut ffi::State, piece: &mut [u8], out: &mut [u8]) -> u32 {
+    fn take_piece(&self, state: &mut ffi::State, piece: &mut [u8], out: &mut [u8]) -> ffi::PieceAnswer {
         unsafe { ffi::eos_take_piece(state, piece.as_mut_ptr(), piece.len(), out.as_mut_ptr(), out.len()) }
     }
 

@@ -1,7 +1,8 @@
-//! Wrong variants: the plain calls, or for the reassembly and for what was landed third ones, with one
-//! mistake put in. The families must find each.
+//! Wrong variants: the plain calls, or for the reassembly, its goes and what was landed third ones, with
+//! one mistake put in. The families must find each.
 
 mod assembly;
+mod goes;
 mod header;
 mod reply;
 mod returned;
@@ -34,6 +35,7 @@ enum Wrong {
     Piece(assembly::Mistake),
     /// Made by the asking for the message alone.
     Message(assembly::Mistake),
+    Goes(goes::Mistake),
     Returned(returned::Mistake),
 }
 
@@ -68,5 +70,6 @@ fn without_a_mistake_all_agree() {
     cases::setup::run(&mut check, rng, 2_000).unwrap();
     cases::reply::run(&mut check, rng, 2_000).unwrap();
     cases::assembly::run(&mut check, &mut Rng(6), 2_000).unwrap();
+    cases::goes::run(&mut check, &mut Rng(6), 2_000).unwrap();
     cases::returned::run(&mut check, rng, 2_000).unwrap();
 }

@@ -7,6 +7,7 @@ compile_error!("set EOS_LIB_DIR to the folder that holds libeoswynnor.a");
 
 use compare::calls::{AssemblyCalls, Calls};
 use compare::cases::assembly::Frame;
+use compare::cases::goes::{chunked, parted, Laid};
 use compare::cases::header::{c2, full, reads16};
 use compare::cases::returned::{full_pair, write1};
 use compare::cases::setup::C10;
@@ -23,7 +24,7 @@ use std::time::Instant;
 
 const RUNS: usize = 21;
 
-const ROWS: [(&str, &str); 28] = [
+const ROWS: [(&str, &str); 30] = [
     ("read", "c2"),
     ("read", "reads16"),
     ("read", "full"),
@@ -46,18 +47,18 @@ const ROWS: [(&str, &str); 28] = [
     ("take", "byte"),
     ("take", "4k"),
     ("take", "4k16"),
+    ("take", "4k31"),
     ("message", "chunks1"),
     ("message", "chunks16"),
     ("fill", "chunks1"),
     ("fill", "chunks16"),
+    ("fill", "runs31"),
     ("returned", "write1"),
     ("returned", "full"),
 ];
 
 const MESSAGE: usize = 1 << 20;
 const PIECE: usize = 32 << 10;
-/// The inline base of the messages that are filled: 4 bytes before each of 16 chunks.
-const BASE: usize = 64;
 
 /// C10's values, and a server's.
 const CLIENT: Setup = Setup { remote_invalidation: 1, send: 4096, receive: 8192 };
@@ -102,17 +103,21 @@ fn input(name: &str) -> Input {
         _ => (&[][..], 12),
     };
     let start = Frame::new(Kind::Msg, segments, &Rng(5).noise(inline)).bytes();
-    let filling = filling(if name.ends_with("16") { 16 } else { 1 });
+    let filling = filling(match name {
+        name if name.ends_with("31") => parted(MESSAGE),
+        name if name.ends_with("16") => chunked(MESSAGE, 16),
+        _ => chunked(MESSAGE, 1),
+    });
     let piece = match name {
         "byte" => 1,
-        "4k" | "4k16" => 4096,
+        "4k" | "4k16" | "4k31" => 4096,
         _ => 0,
     };
     let pair = if name == "full" { full_pair() } else { write1() };
     Input { frame, flat: flatten(&header), number, start, filling, piece, pair }
 }
 
-/// A message of 1 MiB in so many chunks of equal length, started, with the bytes to be pulled.
+/// A message of 1 MiB, started, with the bytes to be pulled.
 struct Filling {
     state: State,
     pulled: Vec<u8>,
@@ -121,33 +126,33 @@ struct Filling {
     runs: Vec<(Range<usize>, Range<usize>)>,
 }
 
-fn filling(chunks: usize) -> Filling {
-    let each = (MESSAGE - BASE) / chunks;
-    let places: Vec<usize> = (0..chunks).map(|i| 4 + i * (each + 4)).collect();
-    let segments: Vec<(u32, u32)> = places.iter().map(|&place| (place as u32, each as u32)).collect();
-    let mut frame = Frame::new(Kind::Msg, &segments, &Rng(3).noise(BASE)).bytes();
+fn filling((frame, places): Laid) -> Filling {
     let mut out = vec![0; MESSAGE];
     let mut state = State::ZERO;
-    assert_eq!(Library.start(&mut frame, &mut out, &mut state), 0);
-    let pulled = Rng(4).noise(each * chunks);
+    assert_eq!(Library.start(&mut frame.bytes(), &mut out, &mut state), 0);
+    let pulled = Rng(4).noise(frame.pulled());
     let mut runs = Vec::new();
     let mut taken = 0;
-    while taken < pulled.len() {
-        let left = [each - taken % each, PIECE - taken % PIECE, pulled.len() - taken];
-        let length = left.into_iter().min().expect("three of them");
-        let place = places[taken / each] + taken % each;
-        runs.push((place..place + length, taken..taken + length));
-        taken += length;
+    for Range { start: mut place, end } in places {
+        while place < end {
+            let length = (end - place).min(PIECE - taken % PIECE);
+            runs.push((place..place + length, taken..taken + length));
+            place += length;
+            taken += length;
+        }
     }
     Filling { state, pulled, out, runs }
 }
 
 fn fill_by<C: Calls>(maker: &C, filling: &mut Filling) {
-    let mut state = filling.state;
+    let (mut state, mut goes) = (filling.state, 0);
     for piece in filling.pulled.chunks_mut(PIECE) {
-        assert_eq!(maker.take_piece(&mut state, black_box(piece), black_box(&mut filling.out)), 0);
+        let answer = maker.take_piece(&mut state, black_box(piece), black_box(&mut filling.out));
+        assert_eq!(answer.number, 0);
+        goes += answer.goes as usize;
     }
-    assert_eq!(state.taken, filling.pulled.len());
+    // As many as there are bare copies.
+    assert_eq!((state.taken, goes), (filling.pulled.len(), filling.runs.len()));
 }
 
 fn fill_by_copies(filling: &mut Filling) {

@@ -10,8 +10,8 @@ use crate::reference::header::{encode, Fault, Header, Kind, ReadSegment, Segment
 use crate::rng::Rng;
 use eoswynnor::ffi;
 
-const KINDS: [Kind; 2] = [Kind::Msg, Kind::Nomsg];
-const MOST: usize = MAX_MESSAGE as usize;
+pub(super) const KINDS: [Kind; 2] = [Kind::Msg, Kind::Nomsg];
+pub(super) const MOST: usize = MAX_MESSAGE as usize;
 
 /// A header and what lies inline behind it.
 #[derive(Clone)]
@@ -31,17 +31,27 @@ impl Frame {
         Frame { header, inline: inline.to_vec() }
     }
 
+    /// Each segment's memory begins where the one before it ends.
+    pub(super) fn in_one_memory(mut self) -> Self {
+        let mut offset = 1 << 40;
+        for entry in &mut self.header.reads {
+            entry.target.offset = offset;
+            offset += u64::from(entry.target.length);
+        }
+        self
+    }
+
     pub fn bytes(&self) -> Vec<u8> {
         [encode(&self.header), self.inline.clone()].concat()
     }
 
     /// All lengths of segments together.
-    fn pulled(&self) -> usize {
+    pub fn pulled(&self) -> usize {
         self.header.reads.iter().map(|entry| entry.target.length as usize).sum()
     }
 
     /// The message's length if the start is accepted.
-    fn length(&self) -> usize {
+    pub fn length(&self) -> usize {
         let chunks = self.header.reads.chunk_by(|one, two| one.position == two.position);
         let rounded = chunks.map(|chunk| {
             chunk.iter().map(|entry| entry.target.length as usize).sum::<usize>().next_multiple_of(4)
@@ -59,7 +69,7 @@ impl Frame {
     }
 
     /// The state as a start leaves it, whether or not one would be accepted.
-    fn state(&self, buffer: usize, taken: usize) -> State {
+    pub(super) fn state(&self, buffer: usize, taken: usize) -> State {
         let zero = self.header.reads.iter().filter(|entry| entry.position == 0);
         let base = match self.header.kind {
             Kind::Nomsg => zero.map(|entry| entry.target.length as usize).sum(),
@@ -90,7 +100,7 @@ impl Rng {
         ends.into_iter().map(|end| end - std::mem::replace(&mut before, end)).collect()
     }
 
-    fn chunk(&mut self, position: u32, total: u32, segments: usize) -> Vec<ReadSegment> {
+    pub(super) fn chunk(&mut self, position: u32, total: u32, segments: usize) -> Vec<ReadSegment> {
         let parts = self.parts(total, segments);
         let target = |length| Segment { length, ..self.segment() };
         parts.into_iter().map(target).map(|target| ReadSegment { position, target }).collect()
@@ -205,7 +215,7 @@ impl Rng {
     }
 
     /// Noise in every unused place and reserved word.
-    fn noisy_state(&mut self, state: &State) -> ffi::State {
+    pub(super) fn noisy_state(&mut self, state: &State) -> ffi::State {
         let mut flat = flatten_state(state);
         for place in &mut flat.reads[state.reads.len()..] {
             *place = ReadSegment { position: self.word(), target: self.segment() }.into();
@@ -254,12 +264,12 @@ pub type Named<C> = (&'static str, fn(&mut Checker<C>) -> Outcome);
 /// Document 01's "Errors we made or met", each a case of its own with the outcome that 01 names.
 pub fn mistakes<C: Calls>() -> [Named<C>; 6] {
     [
-        ("error: segment padding", |check| check.worked(&c9().bytes(), &PULLED, 0x55, Ok(&C6))),
+        ("error: segment padding", |check| check.worked(&c9().bytes(), &PULLED, 0x55, Ok((&C6, 2)))),
         ("error: inline positions", |check| {
-            check.worked(&c7(16).bytes(), &C7_PULLED, 0x55, Ok(&C7_AT_16))?;
+            check.worked(&c7(16).bytes(), &C7_PULLED, 0x55, Ok((&C7_AT_16, 2)))?;
             check.worked(&c7(12).bytes(), &C7_PULLED, 0x55, Err(14))
         }),
-        ("error: equal cursor", |check| check.worked(&c7(20).bytes(), &C7_PULLED, 0x55, Ok(&C7_AT_20))),
+        ("error: equal cursor", |check| check.worked(&c7(20).bytes(), &C7_PULLED, 0x55, Ok((&C7_AT_20, 2)))),
         ("error: any marker", |check| {
             // C5, and a read entry behind a marker of 2.
             check.worked(&words(&[0x2a, 1, 0x20, 0, 2, 0, 0]), &[], 0x55, Err(6))?;
@@ -268,7 +278,9 @@ pub fn mistakes<C: Calls>() -> [Named<C>; 6] {
             check.worked(&frame, &PULLED, 0x55, Err(6))
         }),
         ("error: held padding", |check| {
-            [0, 0x55, 0xff].iter().try_for_each(|&held| check.worked(&c6().bytes(), &PULLED, held, Ok(&C6)))
+            [0, 0x55, 0xff]
+                .iter()
+                .try_for_each(|&held| check.worked(&c6().bytes(), &PULLED, held, Ok((&C6, 1))))
         }),
         ("error: reply to an ERROR", |check| {
             for number in 0..=21 {
@@ -285,15 +297,15 @@ fn worked<C: Calls>(check: &mut Checker<C>) -> Outcome {
     let c2 = words(&[0x2a, 1, 0x20, 0, 0, 0, 0]);
     for held in [0, 0x55, 0xff] {
         check.worked(&[], &[], held, Err(1))?;
-        check.worked(&c2, &[], held, Ok(&[]))?;
+        check.worked(&c2, &[], held, Ok((&[], 0)))?;
         check.worked(&c2[..27], &[], held, Err(5))?;
-        check.worked(&c6().bytes(), &PULLED, held, Ok(&C6))?;
-        check.worked(&c7(16).bytes(), &C7_PULLED, held, Ok(&C7_AT_16))?;
-        check.worked(&c7(20).bytes(), &C7_PULLED, held, Ok(&C7_AT_20))?;
+        check.worked(&c6().bytes(), &PULLED, held, Ok((&C6, 1)))?;
+        check.worked(&c7(16).bytes(), &C7_PULLED, held, Ok((&C7_AT_16, 2)))?;
+        check.worked(&c7(20).bytes(), &C7_PULLED, held, Ok((&C7_AT_20, 2)))?;
         check.worked(&c7(12).bytes(), &C7_PULLED, held, Err(14))?;
         check.worked(&c7(24).bytes(), &C7_PULLED, held, Err(14))?;
-        check.worked(&c8().bytes(), &[&INLINE[..], &PULLED].concat(), held, Ok(&C6))?;
-        check.worked(&c9().bytes(), &PULLED, held, Ok(&C6))?;
+        check.worked(&c8().bytes(), &[&INLINE[..], &PULLED].concat(), held, Ok((&C6, 3)))?;
+        check.worked(&c9().bytes(), &PULLED, held, Ok((&C6, 2)))?;
     }
     for (name, run) in mistakes() {
         check.family(name);
@@ -484,7 +496,7 @@ pub fn largest<C: Calls>(check: &mut Checker<C>, rng: &mut Rng) -> Outcome {
 }
 
 /// Pieces that end where the bits say.
-fn split(bytes: &[u8], ends: usize) -> Vec<Step> {
+pub(super) fn split(bytes: &[u8], ends: usize) -> Vec<Step> {
     let mut steps = vec![Step::Ask];
     let mut piece = Vec::new();
     for (at, &byte) in bytes.iter().enumerate() {

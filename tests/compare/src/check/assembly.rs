@@ -1,8 +1,9 @@
 //! The checks of start, piece and message: call by call beside the reference, list by list
-//! beside the tally, one cut beside another, and beside bytes that document 01 names.
+//! beside the tally, one cut beside another, and beside bytes that document 01 names and goes counted
+//! by hand.
 
 use super::lent::{Buffer, Place};
-use super::seen::{Call, Form};
+use super::seen::{Call, Form, MOST_GOES};
 use super::{hex, Checker, Outcome};
 use crate::calls::Calls;
 use crate::convert::{flatten_state, unflatten_state};
@@ -10,7 +11,7 @@ use crate::reference::assembly::{self, MAX_MESSAGE};
 use crate::reference::header::MAX_READS;
 use crate::tally::Tally;
 use crate::words::Words;
-use eoswynnor::ffi::{State, NOMSG};
+use eoswynnor::ffi::{PieceAnswer, State, NOMSG};
 use std::fmt;
 
 /// One of the calls behind a start.
@@ -36,7 +37,8 @@ fn short(bytes: &[u8]) -> String {
     hex(&bytes[..bytes.len().min(MOST)]) + dots
 }
 
-/// What an implementation made of a start and a list of calls.
+/// What an implementation made of a start and a list of calls, but for the goes: demand 3 leaves them
+/// out.
 #[derive(Clone, Debug, PartialEq)]
 struct Trace {
     start: u32,
@@ -44,6 +46,13 @@ struct Trace {
     answers: Vec<(u32, Vec<u8>)>,
     count: usize,
     buffer: Vec<u8>,
+}
+
+fn same_goes(got: u32, want: u32) -> Outcome {
+    if got != want || got > MOST_GOES {
+        return Err(format!("goes: got {got}, want {want}, at most {MOST_GOES}"));
+    }
+    Ok(())
 }
 
 impl<C: Calls> Checker<C> {
@@ -84,19 +93,20 @@ impl<C: Calls> Checker<C> {
         })
     }
 
-    fn take_over(&mut self, state: &State, piece: &[u8]) -> Result<(u32, State), String> {
+    fn take_over(&mut self, state: &State, piece: &[u8]) -> Result<(PieceAnswer, State), String> {
         self.input.hold(piece, piece.len(), &mut self.noise);
         let mut place = Place::holding(*state, &mut self.noise);
-        let number = self.calls.take_piece(&mut place, &mut self.input, self.memory.lent())?;
-        self.seen.number(Call::Piece, number);
+        let answer = self.calls.take_piece(&mut place, &mut self.input, self.memory.lent())?;
+        self.seen.piece(answer);
         // Only the count may change; unused places, reserved words and all else stay as handed in.
         let right = unflatten_state(state).and_then(|mut natural| {
-            assembly::take(&mut natural, piece, self.memory.want())?;
-            Ok(State { taken: natural.taken, ..*state })
+            let goes = assembly::take(&mut natural, piece, self.memory.want())?;
+            Ok((State { taken: natural.taken, ..*state }, goes))
         });
-        place.judge(number, right)?;
+        place.judge(answer.number, right.map(|(state, _)| state))?;
+        same_goes(answer.goes, right.map_or(0, |(_, goes)| goes))?;
         self.memory.judge()?;
-        Ok((number, place.now.value))
+        Ok((answer, place.now.value))
     }
 
     /// Asking for the message, with any state and a buffer of any length.
@@ -140,13 +150,13 @@ impl<C: Calls> Checker<C> {
         for (at, step) in steps.iter().enumerate() {
             let number = match step {
                 Step::Piece(piece) => {
-                    let (number, next) =
+                    let (answer, next) =
                         self.take_over(&state, piece).map_err(|what| format!("call {at}: {what}"))?;
                     state = next;
                     if finished && piece.is_empty() {
                         self.seen.form(Form::EmptyPieceAtEnd);
                     }
-                    number
+                    answer.number
                 }
                 Step::Ask => {
                     let number = self.ask_over(&state).map_err(|what| format!("call {at}: {what}"))?;
@@ -177,8 +187,8 @@ impl<C: Calls> Checker<C> {
         forms.into_iter().filter(|(_, seen)| *seen).for_each(|(form, _)| self.seen.form(form));
     }
 
-    /// The implementation alone, with no look at the reference.
-    fn trace(&mut self, frame: &[u8], before: &[u8], steps: &[Step]) -> Result<Trace, String> {
+    /// The implementation alone, with no look at the reference; beside its trace the goes of each piece.
+    fn trace(&mut self, frame: &[u8], before: &[u8], steps: &[Step]) -> Result<(Trace, Vec<u32>), String> {
         self.memory.noise(before.len(), &mut self.noise);
         self.memory.set(before);
         let mut state = Place::noise(&mut self.noise);
@@ -187,12 +197,14 @@ impl<C: Calls> Checker<C> {
         if start != 0 {
             state.kept()?;
         }
-        let mut answers = Vec::new();
+        let (mut answers, mut goes) = (Vec::new(), Vec::new());
         for step in steps {
             answers.push(match step {
                 Step::Piece(piece) => {
                     let mut piece = Buffer::holding(piece, aside);
-                    (self.calls.take_piece(&mut state, &mut piece, self.memory.lent())?, Vec::new())
+                    let answer = self.calls.take_piece(&mut state, &mut piece, self.memory.lent())?;
+                    goes.push(answer.goes);
+                    (answer.number, Vec::new())
                 }
                 Step::Ask => self.asked(&mut state)?,
             });
@@ -200,7 +212,8 @@ impl<C: Calls> Checker<C> {
         // What the state holds is for the caller to judge; beside it nothing may have changed.
         state.holds(state.now.value)?;
         self.memory.judge_outside()?;
-        Ok(Trace { start, answers, count: state.now.value.taken, buffer: self.memory.bytes().to_vec() })
+        let (count, buffer) = (state.now.value.taken, self.memory.bytes().to_vec());
+        Ok((Trace { start, answers, count, buffer }, goes))
     }
 
     /// The number and the message.
@@ -226,7 +239,7 @@ impl<C: Calls> Checker<C> {
         let answers = answers.collect();
         let want = Trace { start: 0, answers, count: tally.count(), buffer: tally.buffer() };
         self.trace(cut, before, steps)
-            .and_then(|got| same_trace(&got, &want))
+            .and_then(|(got, _)| same_trace(&got, &want))
             .map_err(|what| told(what, &[uncut, cut], before, &[steps]))
     }
 
@@ -236,7 +249,7 @@ impl<C: Calls> Checker<C> {
         self.count();
         let mut run = |which: usize| -> Result<Trace, String> {
             let steps = [lists[which], &[Step::Ask]].concat();
-            let mut trace = self.trace(cuts[which], before, &steps)?;
+            let (mut trace, _) = self.trace(cuts[which], before, &steps)?;
             // Of the answers only the last one is the same in both.
             trace.answers.drain(..lists[which].len());
             Ok(trace)
@@ -248,16 +261,23 @@ impl<C: Calls> Checker<C> {
         outcome.map_err(|what| told(what, &cuts, before, &lists))
     }
 
-    /// A frame and its pulled bytes, the message or number being that of document 01 itself.
-    pub fn worked(&mut self, frame: &[u8], pulled: &[u8], held: u8, want: Result<&[u8], u32>) -> Outcome {
+    /// A frame and its pulled bytes, the message or number being that of document 01 itself; beside
+    /// the message the goes of one piece of all bytes.
+    pub fn worked(
+        &mut self,
+        frame: &[u8],
+        pulled: &[u8],
+        held: u8,
+        want: Result<(&[u8], u32), u32>,
+    ) -> Outcome {
         self.count();
-        let room = want.map_or(64, <[u8]>::len) + 3;
+        let room = want.map_or(64, |(message, _)| message.len()) + 3;
         let before = vec![held; room];
         let steps = [Step::Piece(pulled.to_vec()), Step::Ask];
-        let got =
+        let (got, goes) =
             self.trace(frame, &before, &steps).map_err(|what| told(what, &[frame], &before, &[&steps]))?;
         let right = match want {
-            Ok(message) => {
+            Ok((message, _)) => {
                 let buffer = [message, &before[message.len()..]].concat();
                 let answers = vec![(0, vec![]), (0, message.to_vec())];
                 Trace { start: 0, answers, count: pulled.len(), buffer }
@@ -265,7 +285,21 @@ impl<C: Calls> Checker<C> {
             Err(number) => Trace { start: number, answers: vec![], count: 0, buffer: before.clone() },
         };
         let got = if want.is_err() { Trace { answers: vec![], count: 0, ..got } } else { got };
-        same_trace(&got, &right).map_err(|what| told(what, &[frame], &before, &[&steps]))
+        same_trace(&got, &right)
+            // Behind a refused start the piece is refused too, since the state is noise.
+            .and_then(|()| same_goes(goes[0], want.map_or(0, |(_, goes)| goes)))
+            .map_err(|what| told(what, &[frame], &before, &[&steps]))
+    }
+
+    /// Pieces and the goes of each, which are the caller's and not the reference's.
+    pub fn goes(&mut self, frame: &[u8], before: &[u8], pieces: &[Step], want: &[u32]) -> Outcome {
+        self.count();
+        self.trace(frame, before, pieces)
+            .and_then(|(_, goes)| {
+                assert_eq!(goes.len(), want.len(), "pieces alone");
+                goes.iter().zip(want).try_for_each(|(&got, &want)| same_goes(got, want))
+            })
+            .map_err(|what| told(what, &[frame], before, &[pieces]))
     }
 }
 

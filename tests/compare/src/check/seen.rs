@@ -1,5 +1,6 @@
 //! What an implementation answered so far, and what the families must draw from it.
 
+use eoswynnor::ffi::PieceAnswer;
 use std::collections::BTreeMap;
 
 /// Where answer numbers are counted; Replied is the reader's number that a reply was made for.
@@ -83,16 +84,32 @@ const FORMS: [&str; 20] = [
     "one header as both",
 ];
 
+/// Order 2's bound: a piece takes as many goes at most.
+pub const MOST_GOES: u32 = 31;
+
 /// What the implementation answered so far.
 #[derive(Default)]
 pub struct Seen {
     numbers: [BTreeMap<u32, u64>; CALLS.len()],
+    /// Of pieces that were taken; each count up to the bound must be seen.
+    goes: BTreeMap<u32, u64>,
     forms: [u64; FORMS.len()],
+}
+
+fn listed(counts: &BTreeMap<u32, u64>) -> String {
+    counts.iter().map(|(what, seen)| format!("{what}:{seen}")).collect::<Vec<_>>().join(" ")
 }
 
 impl Seen {
     pub fn number(&mut self, call: Call, number: u32) {
         *self.numbers[call as usize].entry(number).or_default() += 1;
+    }
+
+    pub fn piece(&mut self, answer: PieceAnswer) {
+        self.number(Call::Piece, answer.number);
+        if answer.number == 0 {
+            *self.goes.entry(answer.goes).or_default() += 1;
+        }
     }
 
     pub fn form(&mut self, form: Form) {
@@ -109,13 +126,12 @@ impl Seen {
         }
     }
 
-    /// A line for each call, then one for each form.
+    /// A line for each call, one for the goes, then one for each form.
     pub fn lines(&self) -> Vec<String> {
-        let calls = CALLS.iter().zip(&self.numbers).map(|((name, _), numbers)| {
-            let list: Vec<String> = numbers.iter().map(|(number, seen)| format!("{number}:{seen}")).collect();
-            format!("{name} numbers: {}", list.join(" "))
-        });
-        calls.chain(FORMS.iter().zip(self.forms).map(|(name, seen)| format!("{name}: {seen}"))).collect()
+        let calls = CALLS.iter().zip(&self.numbers);
+        let calls = calls.map(|((name, _), numbers)| format!("{name} numbers: {}", listed(numbers)));
+        let forms = FORMS.iter().zip(self.forms).map(|(name, seen)| format!("{name}: {seen}"));
+        calls.chain([format!("goes of a piece: {}", listed(&self.goes))]).chain(forms).collect()
     }
 
     pub fn missing(&self) -> Vec<String> {
@@ -123,7 +139,9 @@ impl Seen {
             let unseen = must.iter().filter(|number| !numbers.contains_key(number));
             unseen.map(move |number| format!("{name} never gave {number}"))
         });
+        let goes = (0..=MOST_GOES).filter(|goes| !self.goes.contains_key(goes));
+        let goes = goes.map(|goes| format!("no piece took {goes} goes"));
         let forms = FORMS.iter().zip(self.forms).filter(|(_, seen)| *seen == 0);
-        numbers.chain(forms.map(|(name, _)| format!("{name} never seen"))).collect()
+        numbers.chain(goes).chain(forms.map(|(name, _)| format!("{name} never seen"))).collect()
     }
 }

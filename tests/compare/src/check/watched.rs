@@ -73,7 +73,12 @@ impl<C: Calls> Watched<C> {
         frame.only_read(|frame| self.0.start(frame, out, state.lent()))
     }
 
-    pub fn take_piece(&self, state: &mut Place<ffi::State>, piece: &mut Buffer, out: &mut [u8]) -> Number {
+    pub fn take_piece(
+        &self,
+        state: &mut Place<ffi::State>,
+        piece: &mut Buffer,
+        out: &mut [u8],
+    ) -> Result<ffi::PieceAnswer, String> {
         piece.only_read(|piece| self.0.take_piece(state.lent(), piece, out))
     }
 

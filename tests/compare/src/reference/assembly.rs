@@ -1,6 +1,7 @@
 //! The reassembly of a call.
 
 use super::header::{self, Kind, ReadSegment, MAX_READS};
+use std::iter::repeat_n;
 
 pub const MAX_MESSAGE: u128 = 1_048_576;
 
@@ -60,6 +61,25 @@ impl Places {
         let base = if kind == Kind::Nomsg { &self.base[..] } else { &[] };
         [base, &self.chunks].concat()
     }
+}
+
+/// For each byte to be pulled, the segment it comes from, by its index in the read list.
+fn sources(reads: &[ReadSegment]) -> impl Iterator<Item = usize> + '_ {
+    reads.iter().enumerate().flat_map(|(index, entry)| repeat_n(index, entry.target.length as usize))
+}
+
+/// How many goes bytes take, each with its segment and its place: the fewest runs that have one
+/// segment and no gap and make them up. A new one begins only at a byte that cannot go on with the
+/// one before it.
+fn goes(bytes: impl IntoIterator<Item = (usize, usize)>) -> u32 {
+    let (mut count, mut next) = (0, None);
+    for (segment, place) in bytes {
+        if next != Some((segment, place)) {
+            count += 1;
+        }
+        next = Some((segment, place + 1));
+    }
+    count
 }
 
 /// 12 to 16, then the places. The base's length is handed in: a state has its own.
@@ -136,16 +156,18 @@ fn settled(state: &State, room: usize) -> Result<Places, u32> {
     Ok(places)
 }
 
-/// Takes a piece, or gives the number of the refusal, which leaves state and `out` alone.
-pub fn take(state: &mut State, piece: &[u8], out: &mut [u8]) -> Result<(), u32> {
+/// Takes a piece: how many goes it took, or the number of the refusal, which leaves state and `out`
+/// alone.
+pub fn take(state: &mut State, piece: &[u8], out: &mut [u8]) -> Result<u32, u32> {
     let pulled = settled(state, out.len())?.pulled(state.kind);
     let left = &pulled[state.taken..];
     if piece.len() > left.len() {
         return Err(18);
     }
     left.iter().zip(piece).for_each(|(&place, &byte)| out[place] = byte);
+    let goes = goes(sources(&state.reads).zip(pulled).skip(state.taken).take(piece.len()));
     state.taken += piece.len();
-    Ok(())
+    Ok(goes)
 }
 
 /// The length of the message, which is the first part of the buffer, or the number of the refusal.
@@ -161,6 +183,8 @@ pub fn ask(state: &State, room: usize) -> Result<usize, u32> {
 mod tests {
     use super::*;
     use crate::cases::assembly::{c6, c7, c8, c9, Frame, C6, INLINE, PULLED};
+    use crate::cases::goes::counted;
+    use crate::rng::Rng;
 
     #[test]
     fn worked_examples() {
@@ -171,7 +195,7 @@ mod tests {
             assert_eq!(out[13..16], [0; 3]);
             for &byte in pulled {
                 assert_eq!(ask(&state, 23), Err(19));
-                assert_eq!(take(&mut state, &[byte], &mut out), Ok(()));
+                assert_eq!(take(&mut state, &[byte], &mut out), Ok(1));
             }
             assert_eq!(take(&mut state, &[1], &mut out), Err(18));
             assert_eq!((ask(&state, 23), ask(&state, 22)), (Ok(20), Err(17)));
@@ -205,6 +229,105 @@ mod tests {
             let mut out = [0x55; 15];
             assert_eq!(start(&frame.bytes(), &mut out), Err(number));
             assert_eq!(out, [0x55; 15]);
+        }
+    }
+
+    #[test]
+    fn goes_counted_by_hand() {
+        for case in counted() {
+            let mut out = vec![0x55; case.frame.length()];
+            let mut state = start(&case.frame.bytes(), &mut out).expect(case.name);
+            for &(length, want) in &case.pieces {
+                let goes = take(&mut state, &vec![7; length], &mut out).unwrap_or(0);
+                assert_eq!(goes, want, "{}", case.name);
+            }
+        }
+    }
+
+    /// A byte's segment and place.
+    type Byte = (usize, usize);
+
+    /// One segment and no gap.
+    fn is_run(bytes: &[Byte]) -> bool {
+        let (segment, first) = bytes[0];
+        bytes.iter().zip(first..).all(|(&byte, place)| byte == (segment, place))
+    }
+
+    /// Of all splits into runs the one with the fewest; a set bit ends a part behind its byte.
+    fn fewest(bytes: &[Byte]) -> u32 {
+        let all_runs = |ends: &u32| {
+            let mut start = 0;
+            (1..=bytes.len()).filter(|end| *end == bytes.len() || ends >> (end - 1) & 1 == 1).all(|end| {
+                let part = start..end;
+                start = end;
+                is_run(&bytes[part])
+            })
+        };
+        match bytes.len() {
+            0 => 0,
+            n => (0..1 << (n - 1)).filter(all_runs).map(|ends: u32| ends.count_ones() + 1).min().unwrap(),
+        }
+    }
+
+    /// All lists of up to 7 bytes in which one follows the other in any of six ways.
+    #[test]
+    fn goes_are_the_fewest_runs() {
+        let steps: [fn(Byte) -> Byte; 6] = [
+            |(segment, place)| (segment, place + 1),
+            |(segment, place)| (segment, place + 2),
+            |(segment, place)| (segment, place),
+            |(segment, place)| (segment + 1, place + 1),
+            |(segment, place)| (segment + 1, place + 4),
+            |(segment, place)| (segment + 1, place - 3),
+        ];
+        let mut lists: Vec<Vec<Byte>> = vec![vec![]];
+        for length in 0..=7 {
+            for list in &lists {
+                assert_eq!(goes(list.iter().copied()), fewest(list), "{list:?}");
+            }
+            let first = [(3, 100)].into_iter().filter(|_| length == 0).map(|byte| vec![byte]);
+            let longer = lists
+                .iter()
+                .filter(|list| !list.is_empty())
+                .flat_map(|list| steps.map(|step| [&list[..], &[step(list[list.len() - 1])]].concat()));
+            lists = first.chain(longer).collect();
+        }
+    }
+
+    /// Each byte's place by where it lands alone, its segment by the lengths.
+    fn landings(frame: &Frame) -> Vec<Byte> {
+        let mut state = start(&frame.bytes(), &mut vec![0; frame.length()]).expect("an accepted start");
+        let mut bytes = Vec::new();
+        for (segment, entry) in state.reads.clone().iter().enumerate() {
+            for _ in 0..entry.target.length {
+                let mut out = vec![0; frame.length()];
+                take(&mut state, &[1], &mut out).expect("a byte to be pulled");
+                bytes.push((segment, out.iter().position(|&byte| byte == 1).expect("a byte written")));
+            }
+        }
+        bytes
+    }
+
+    /// Every piece of up to 10 bytes of small messages.
+    #[test]
+    fn goes_of_pieces_are_the_fewest_runs() {
+        let rng = &mut Rng(9);
+        let mut frames: Vec<Frame> = counted().into_iter().map(|case| case.frame).collect();
+        frames.extend((0..3_000).map(|at| rng.call([Kind::Msg, Kind::Nomsg][at % 2])));
+        frames.extend((0..3_000).map(|_| rng.dense(Kind::Nomsg)));
+        frames.retain(|frame| frame.pulled() <= 60);
+        assert!(frames.len() > 500);
+        for frame in &frames {
+            let bytes = landings(frame);
+            let mut out = vec![0; frame.length()];
+            let fresh = start(&frame.bytes(), &mut out).expect("an accepted start");
+            for taken in 0..=bytes.len() {
+                for length in 0..=(bytes.len() - taken).min(10) {
+                    let mut state = State { taken, ..fresh.clone() };
+                    let goes = take(&mut state, &vec![7; length], &mut out);
+                    assert_eq!(goes, Ok(fewest(&bytes[taken..taken + length])), "{fresh:?} {length}");
+                }
+            }
         }
     }
 }

@@ -507,9 +507,11 @@ impl AssemblyCalls for Wrong {
         self.faulty_start(frame, out, state)
     }
 
-    fn take_piece(&self, state: &mut ffi::State, piece: &mut [u8], out: &mut [u8]) -> u32 {
+    fn take_piece(&self, state: &mut ffi::State, piece: &mut [u8], out: &mut [u8]) -> ffi::PieceAnswer {
         let wrong = if let Message(_) = self { &Nowhere } else { self };
-        wrong.faulty_take_piece(state, piece, out)
+        let before = *state;
+        let number = wrong.faulty_take_piece(state, piece, out);
+        wrong.answer(&before, piece.len(), number)
     }
 
     fn message(&self, state: &mut ffi::State, out: &mut [u8], length: &mut usize) -> u32 {
