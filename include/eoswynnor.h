@@ -14,8 +14,9 @@
  *   in it changed. Another length of the buffer is refused; other contents cannot be noticed.
  *
  * For the rest any bytes, header, state and number may be handed in. A call answers a number, 0 when done, and stores what
- * it makes where the caller says. A refused call changes nothing that was lent: no byte, no struct, no number. No struct
- * has holes. A reserved word is zero in what a call makes and ignored in what it is given.
+ * it makes where the caller says. Two hand back a struct in place of the number: eos_take_piece with the number in it,
+ * eos_payload, which never refuses, with none. A refused call changes nothing that was lent: no byte, no struct, no number.
+ * No struct has holes. A reserved word is zero in what a call makes and ignored in what it is given.
  *
  * The way of a call, for a server:
  *
@@ -24,8 +25,8 @@
  *     uint32_t number = eos_start(frame, frame_len, out, out_len, &state);
  *     if (number != EOS_DONE) refuse: eos_error_reply(frame, frame_len, number, limit, reply, EOS_MAX_REPLY, &length);
  *     for each piece pulled, in the order of state.reads:
- *         if (eos_take_piece(&state, piece, piece_len, out, out_len) != EOS_DONE) it was more than is still to be pulled
- *             (EOS_PIECE_LONG), or the state or the buffer's length was changed; nothing is, so another piece may come
+ *         if (eos_take_piece(&state, piece, piece_len, out, out_len).number != EOS_DONE) it was more than is still to be
+ *             pulled (EOS_PIECE_LONG), or the state or the buffer's length was changed; nothing is, so another may come
  *     if (eos_message(&state, out, out_len, &length) == EOS_DONE)
  *         the message is the first length bytes of out
  *
@@ -65,6 +66,7 @@ extern "C" {
 #define EOS_MAX_WRITE_SEGMENTS 16 /* in all write chunks together */
 #define EOS_MAX_REPLY_SEGMENTS 16 /* in the reply chunk */
 #define EOS_MAX_MESSAGE 1048576   /* bytes of a reassembled message: room that always suffices */
+#define EOS_MAX_GOES 31           /* of one piece */
 #define EOS_MAX_HEADER 1024       /* bytes of a header to be written: room that always suffices */
 #define EOS_MAX_REPLY 28          /* bytes of an error reply: room that always suffices */
 #define EOS_SETUP_BYTES 8         /* bytes of setup data */
@@ -176,6 +178,15 @@ struct eos_state {
     uint32_t kind;                /* EOS_MSG or EOS_NOMSG */
 };
 
+/* What a piece is answered with. Bytes of a piece that are of one segment and have no gap between their places in the
+ * message are a run, which is placed in one go. A chunk makes a gap in the base unless it is empty; bytes of two segments
+ * are two runs even where they stand side by side. */
+struct eos_piece_answer {
+    uint32_t number;
+    uint32_t goes;                /* the fewest runs that make the piece up, at most EOS_MAX_GOES; 0 for an empty or a
+                                     refused piece */
+};
+
 /* How many bytes a reply says were put into each chunk that was sent. */
 struct eos_landed {
     uint64_t writes[EOS_MAX_WRITE_CHUNKS]; /* 0 behind the last write chunk */
@@ -223,8 +234,10 @@ uint32_t eos_error_reply(const uint8_t *frame, size_t frame_len, uint32_t number
 uint32_t eos_start(const uint8_t *frame, size_t frame_len, uint8_t *out, size_t out_len, struct eos_state *state);
 
 /* Takes the next pulled bytes, cut as they come: the bytes of reads[0], then those of reads[1] and so on; an empty piece
- * at any time. Of the state, which is changed where it lies, only taken changes. Numbers 17, 18. */
-uint32_t eos_take_piece(struct eos_state *state, const uint8_t *piece, size_t piece_len, uint8_t *out, size_t out_len);
+ * at any time. Of the state, which is changed where it lies, only taken changes. Answers the number, and how many goes the
+ * piece took. Numbers 17, 18. */
+struct eos_piece_answer eos_take_piece(struct eos_state *state, const uint8_t *piece, size_t piece_len, uint8_t *out,
+                                       size_t out_len);
 
 /* Asks for the message, once all bytes are in: it is the first length bytes of the buffer. Numbers 17, 19. */
 uint32_t eos_message(const struct eos_state *state, const uint8_t *out, size_t out_len, size_t *length);

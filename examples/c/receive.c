@@ -7,7 +7,7 @@
 #include <stdio.h>
 #include <string.h>
 
-enum { CREDIT_LIMIT = 32, PIECE = 4 };
+enum { CREDIT_LIMIT = 32, PIECE = 6 };
 
 /* The client's memory, as its segments name it: 01 to 0c at 0, a1 to a5 at 12, b1 to b4 at 17. */
 static const uint8_t client_memory[] = {1,    2,    3,    4,    5,    6,    7,    8,    9,    10,  11,
@@ -29,8 +29,10 @@ static void rdma_read(struct eos_segment from, size_t done, uint8_t *into, size_
     memcpy(into, client_memory + from.offset + done, length);
 }
 
-/* Reassembles a call in out. Answers 0 and how long the message is, or the number of the refusal. */
-static uint32_t receive(const uint8_t *frame, size_t frame_len, uint8_t *out, size_t out_len, size_t *message_len)
+/* Reassembles a call in out. Answers 0 and how long the message is, or the number of the refusal. Prints each piece's
+ * length and how many goes it took. */
+static uint32_t receive(const char *name, const uint8_t *frame, size_t frame_len, uint8_t *out, size_t out_len,
+                        size_t *message_len)
 {
     struct eos_state s;
     uint32_t number = eos_start(frame, frame_len, out, out_len, &s);
@@ -42,9 +44,10 @@ static uint32_t receive(const uint8_t *frame, size_t frame_len, uint8_t *out, si
             uint8_t piece[PIECE];
             size_t length = from.length - done < PIECE ? from.length - done : PIECE;
             rdma_read(from, done, piece, length);
-            number = eos_take_piece(&s, piece, length, out, out_len);
-            if (number != EOS_DONE)
-                return number;
+            struct eos_piece_answer answer = eos_take_piece(&s, piece, length, out, out_len);
+            if (answer.number != EOS_DONE)
+                return answer.number;
+            printf("%s piece %zu goes %" PRIu32 "\n", name, length, answer.goes);
             done += length;
         }
     }
@@ -56,7 +59,7 @@ static void serve(const char *name, const uint8_t *frame, size_t frame_len)
 {
     static uint8_t out[EOS_MAX_MESSAGE];
     size_t length;
-    uint32_t number = receive(frame, frame_len, out, sizeof out, &length);
+    uint32_t number = receive(name, frame, frame_len, out, sizeof out, &length);
 
     printf("%s %" PRIu32, name, number);
     if (number == EOS_DONE) {

@@ -6,7 +6,7 @@ use eoswynnor::{error_reply, grant, payload, Assembly, Header, Kind, ReadSegment
 use eoswynnor::{MAX_HEADER, MAX_MESSAGE, MAX_REPLY};
 
 const CREDIT_LIMIT: u32 = 32;
-const PIECE: usize = 4;
+const PIECE: usize = 6;
 
 /// The client's memory, as its segments name it: 01 to 0c at 0, a1 to a5 at 12, b1 to b4 at 17.
 const CLIENT_MEMORY: [u8; 21] =
@@ -21,12 +21,13 @@ fn rdma_read(from: Segment) -> &'static [u8] {
     &CLIENT_MEMORY[from.offset as usize..][..from.length as usize]
 }
 
-/// Reassembles a call in a buffer.
-fn receive<'a>(frame: &[u8], out: &'a mut [u8]) -> Result<Assembly<'a>, Refusal> {
+/// Reassembles a call in a buffer. Prints each piece's length and how many goes it took.
+fn receive<'a>(name: &str, frame: &[u8], out: &'a mut [u8]) -> Result<Assembly<'a>, Refusal> {
     let mut assembly = Assembly::start(frame, out)?;
     for read in assembly.reads().to_vec() {
         for piece in rdma_read(read.target).chunks(PIECE) {
-            assembly.take(piece)?;
+            let goes = assembly.take(piece)?;
+            println!("{name} piece {} goes {goes}", piece.len());
         }
     }
     Ok(assembly)
@@ -35,7 +36,7 @@ fn receive<'a>(frame: &[u8], out: &'a mut [u8]) -> Result<Assembly<'a>, Refusal>
 /// Serves one frame: hands the message to the RPC layer, or sends the error reply. Here both are printed.
 fn serve(name: &str, frame: &[u8]) -> Result<(), Refusal> {
     let mut out = vec![0; MAX_MESSAGE];
-    match receive(frame, &mut out) {
+    match receive(name, frame, &mut out) {
         Ok(assembly) => {
             let message = assembly.message()?;
             println!("{name} 0 message {} {}", message.len(), hex(message));

@@ -47,11 +47,17 @@ impl fmt::Display for Refusal {
 
 impl std::error::Error for Refusal {}
 
+/// What a call made, unless its number says that it refused.
+pub(crate) fn unless_refused<T>(number: u32, made: T) -> Result<T, Refusal> {
+    match number {
+        0 => Ok(made),
+        number => Err(Refusal(number)),
+    }
+}
+
 /// Makes a call that stores into a place; hands out what it stored. A refused call stores nothing.
 pub(crate) fn stored<T: Default>(call: impl FnOnce(&mut T) -> u32) -> Result<T, Refusal> {
     let mut place = T::default();
-    match call(&mut place) {
-        0 => Ok(place),
-        number => Err(Refusal(number)),
-    }
+    let number = call(&mut place);
+    unless_refused(number, place)
 }

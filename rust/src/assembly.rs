@@ -1,11 +1,14 @@
 //! The reassembly of a call.
 
-use crate::answer::{stored, Refusal};
+use crate::answer::{stored, unless_refused, Refusal};
 use crate::ffi;
 use crate::header::ReadSegment;
 
 /// Room that suffices for every message.
 pub const MAX_MESSAGE: usize = 1_048_576;
+
+/// The most goes of one piece.
+pub const MAX_GOES: u32 = 31;
 
 /// A call in reassembly, in a buffer that it holds.
 #[derive(Debug)]
@@ -40,12 +43,14 @@ impl<'a> Assembly<'a> {
         self.reads().iter().map(|read| read.target.length as usize).sum::<usize>() - self.state.taken
     }
 
-    /// Takes the next pulled bytes, cut as they come. A refused piece changes nothing. Number 18.
-    pub fn take(&mut self, piece: &[u8]) -> Result<(), Refusal> {
+    /// Takes the next pulled bytes, cut as they come; answers how many goes it took to place them: the fewest runs that
+    /// make the piece up, each of one segment and with no gap between its places in the message. At most [`MAX_GOES`],
+    /// and 0 for an empty piece. A refused piece changes nothing and takes none. Number 18.
+    pub fn take(&mut self, piece: &[u8]) -> Result<u32, Refusal> {
         let Assembly { state, out, .. } = self;
-        stored(|()| unsafe {
-            ffi::eos_take_piece(state, piece.as_ptr(), piece.len(), out.as_mut_ptr(), out.len())
-        })
+        let answer =
+            unsafe { ffi::eos_take_piece(state, piece.as_ptr(), piece.len(), out.as_mut_ptr(), out.len()) };
+        unless_refused(answer.number, answer.goes)
     }
 
     /// The message, once all bytes are in. Number 19.

@@ -77,6 +77,16 @@ pub struct State {
     pub kind: u32,
 }
 
+/// What a piece is answered with.
+#[repr(C)]
+#[derive(Clone, Copy, Debug, Default, PartialEq, Eq)]
+pub struct PieceAnswer {
+    /// 0 if the piece was taken.
+    pub number: u32,
+    /// How many goes it took to place the piece; 0 for an empty or a refused one.
+    pub goes: u32,
+}
+
 /// The bytes that a reply says were put into each write chunk and into the reply chunk.
 #[repr(C)]
 #[derive(Clone, Copy, Debug, Default, PartialEq, Eq)]
@@ -93,6 +103,7 @@ const _: () = assert!(size_of::<Header>() == 16 * (24 + 16 + 16) + 14 * 4);
 const _: () = assert!(size_of::<Part>() == 2 * 8);
 const _: () = assert!(size_of::<Setup>() == 3 * 4 && size_of::<Agreement>() == 3 * 4);
 const _: () = assert!(size_of::<State>() == 16 * 24 + 3 * 8 + 2 * 4);
+const _: () = assert!(size_of::<PieceAnswer>() == 2 * 4 && core::mem::offset_of!(PieceAnswer, goes) == 4);
 const _: () = assert!(size_of::<Landed>() == 5 * 8);
 
 extern "C" {
@@ -125,7 +136,7 @@ extern "C" {
         piece_len: usize,
         out: *mut u8,
         out_len: usize,
-    ) -> u32;
+    ) -> PieceAnswer;
     pub fn eos_message(state: *const State, out: *const u8, out_len: usize, length: *mut usize) -> u32;
     pub fn eos_returned(sent: *const Header, reply: *const Header, landed: *mut Landed) -> u32;
 }

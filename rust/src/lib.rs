@@ -22,7 +22,7 @@ mod setup;
 #[cfg(feature = "link")]
 pub use {
     answer::Refusal,
-    assembly::{Assembly, MAX_MESSAGE},
+    assembly::{Assembly, MAX_GOES, MAX_MESSAGE},
     header::{payload, Header, Kind, ReadSegment, Segment, MAX_HEADER},
     reply::{error_reply, grant, MAX_REPLY},
     returned::Landed,

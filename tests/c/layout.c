@@ -1,11 +1,12 @@
 /*
  * The size of each struct and the place of each field as C sees them, which is as rust/src/ffi.rs and the library have
- * them. To compile it is the test.
+ * them, and which structs are handed back by value. To compile it is the test.
  */
 #include <eoswynnor.h>
 
 #define SIZE(type, size) _Static_assert(sizeof(struct type) == (size), "size of " #type)
 #define AT(type, field, place) _Static_assert(offsetof(struct type, field) == (place), #type "." #field)
+#define BY_VALUE(type, call) _Static_assert(_Generic((call), struct type: 1, default: 0), #type " from " #call)
 
 SIZE(eos_segment, 16);
 AT(eos_segment, handle, 0);
@@ -36,6 +37,7 @@ AT(eos_header, reserved, 948);
 SIZE(eos_part, 16);
 AT(eos_part, offset, 0);
 AT(eos_part, length, 8);
+BY_VALUE(eos_part, eos_payload(0, 0));
 
 SIZE(eos_setup, 12);
 AT(eos_setup, remote_invalidation, 0);
@@ -54,6 +56,11 @@ AT(eos_state, buffer, 392);
 AT(eos_state, taken, 400);
 AT(eos_state, read_count, 408);
 AT(eos_state, kind, 412);
+
+SIZE(eos_piece_answer, 8);
+AT(eos_piece_answer, number, 0);
+AT(eos_piece_answer, goes, 4);
+BY_VALUE(eos_piece_answer, eos_take_piece(0, 0, 0, 0, 0));
 
 SIZE(eos_landed, 40);
 AT(eos_landed, writes, 0);

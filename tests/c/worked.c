@@ -1,4 +1,4 @@
-/* Every call on worked examples C1 to C13 and on replies worked by hand, as C sees them. */
+/* Every call on worked examples C1 to C13, and on goes and replies worked by hand, as C sees them. */
 #include <eoswynnor.h>
 #include <stdio.h>
 #include <string.h>
@@ -144,6 +144,11 @@ static void connecting(void)
     EXPECT(eos_grant(100, 32, &credit) == EOS_DONE && credit == 32);
 }
 
+static int answers(struct eos_piece_answer answer, uint32_t number, uint32_t goes)
+{
+    return answer.number == number && answer.goes == goes;
+}
+
 /* C6, a byte of it at a time, with a byte behind the message. */
 static void reassembling(void)
 {
@@ -164,13 +169,88 @@ static void reassembling(void)
     s.reads[0].reserved = 7;
     for (size_t i = 0; i < sizeof pulled; i++) {
         EXPECT(eos_message(&s, out, sizeof out, &length) == EOS_BYTES_MISSING && length == 99);
-        EXPECT(eos_take_piece(&s, pulled + i, 1, out, sizeof out) == EOS_DONE && s.taken == i + 1);
+        EXPECT(answers(eos_take_piece(&s, pulled + i, 1, out, sizeof out - 1), EOS_STATE_UNFIT, 0) && s.taken == i);
+        EXPECT(answers(eos_take_piece(&s, pulled + i, 1, out, sizeof out), EOS_DONE, 1) && s.taken == i + 1);
     }
-    EXPECT(eos_take_piece(&s, pulled, 1, out, sizeof out) == EOS_PIECE_LONG && s.taken == 5);
-    EXPECT(eos_take_piece(&s, pulled, 0, out, sizeof out) == EOS_DONE && s.taken == 5);
+    EXPECT(answers(eos_take_piece(&s, pulled, 1, out, sizeof out), EOS_PIECE_LONG, 0) && s.taken == 5);
+    EXPECT(answers(eos_take_piece(&s, pulled, 0, out, sizeof out), EOS_DONE, 0) && s.taken == 5);
     EXPECT(eos_message(&s, out, sizeof out - 1, &length) == EOS_STATE_UNFIT && length == 99);
     EXPECT(eos_message(&s, out, sizeof out, &length) == EOS_DONE && length == sizeof message);
     EXPECT(memcmp(out, message, sizeof message) == 0 && out[20] == 0xee && s.reads[0].reserved == 7);
+}
+
+/* A call with read segments by position and length, and pieces by length and goes. The segments lie one behind the other in
+ * one memory, which joins no runs. MSG has C6's inline bytes. */
+static const struct worked_goes {
+    const char *name;
+    const uint8_t *message; /* of 20 bytes; NULL where only the goes are looked at */
+    uint32_t kind, read_count, reads[EOS_MAX_READ_SEGMENTS][2], piece_count, pieces[5][2];
+} worked_goes[] = {
+    {"C6", message, EOS_MSG, 1, {{8, 5}}, 1, {{5, 1}}},
+    {"C8", message, EOS_NOMSG, 2, {{0, 12}, {8, 5}}, 1, {{17, 3}}},
+    {"C9", message, EOS_MSG, 2, {{8, 2}, {8, 3}}, 1, {{5, 2}}},
+    {"an empty segment in a chunk", message, EOS_MSG, 3, {{8, 2}, {8, 0}, {8, 3}}, 1, {{5, 2}}},
+    {"chunks back to back", NULL, EOS_MSG, 2, {{8, 4}, {12, 4}}, 1, {{8, 2}}},
+    {"chunks back to back, with padding", NULL, EOS_MSG, 2, {{8, 5}, {16, 4}}, 1, {{9, 2}}},
+    {"a chunk where a base segment ends", message, EOS_NOMSG, 3, {{0, 8}, {0, 4}, {8, 5}}, 1, {{17, 3}}},
+    {"a chunk in the second base segment", message, EOS_NOMSG, 3, {{0, 4}, {0, 8}, {8, 5}}, 1, {{17, 4}}},
+    {"chunks back to back in the base", NULL, EOS_NOMSG, 3, {{0, 12}, {4, 4}, {8, 4}}, 2, {{12, 2}, {8, 2}}},
+    {"the same in one piece", NULL, EOS_NOMSG, 3, {{0, 12}, {4, 4}, {8, 4}}, 1, {{20, 4}}},
+    {"an empty chunk in the base", NULL, EOS_NOMSG, 2, {{0, 12}, {8, 0}}, 1, {{12, 1}}},
+    {"a chunk of 0 and 0 in the base", NULL, EOS_NOMSG, 3, {{0, 12}, {8, 0}, {8, 0}}, 1, {{12, 1}}},
+    {"a chunk of 0 and 5 in the base", message, EOS_NOMSG, 3, {{0, 12}, {8, 0}, {8, 5}}, 2, {{12, 2}, {5, 1}}},
+    {"pieces that end inside segments", message, EOS_MSG, 2, {{8, 2}, {8, 3}}, 3, {{1, 1}, {2, 2}, {2, 1}}},
+    {"pieces that end inside runs", message, EOS_NOMSG, 2, {{0, 12}, {8, 5}}, 3, {{3, 1}, {7, 2}, {7, 2}}},
+    {"pieces that are runs", message, EOS_NOMSG, 2, {{0, 12}, {8, 5}}, 5, {{8, 1}, {0, 0}, {4, 1}, {0, 0}, {5, 1}}},
+    {"nothing to pull", NULL, EOS_MSG, 0, {{0, 0}}, 1, {{0, 0}}},
+    /* Base bytes before and behind each of as many chunks as there can be. */
+    {"the most", NULL, EOS_NOMSG, 16, {{0, 64}, {4, 4}, {12, 4}, {20, 4}, {28, 4}, {36, 4}, {44, 4}, {52, 4}, {60, 4},
+                                       {68, 4}, {76, 4}, {84, 4}, {92, 4}, {100, 4}, {108, 4}, {116, 4}},
+     1, {{124, EOS_MAX_GOES}}},
+};
+
+/* Writes and starts such a call. */
+static int starts(const struct worked_goes *w, uint8_t *out, size_t out_len, struct eos_state *s)
+{
+    struct eos_header h = {.kind = w->kind, .read_count = w->read_count};
+    uint8_t frame[EOS_MAX_HEADER + 12];
+    size_t length, inline_length = w->kind == EOS_MSG ? 12 : 0;
+    uint64_t offset = 0;
+    for (uint32_t i = 0; i < w->read_count; i++) {
+        h.reads[i] = (struct eos_read_segment){w->reads[i][0], 0, {3, w->reads[i][1], offset}};
+        offset += w->reads[i][1];
+    }
+    if (eos_write_header(&h, frame, sizeof frame, &length) != EOS_DONE)
+        return 0;
+    memcpy(frame + length, c6 + 52, inline_length);
+    return eos_start(frame, length + inline_length, out, out_len, s) == EOS_DONE;
+}
+
+static void counting(void)
+{
+    /* C8's pulled bytes; from the 13th on those of C6 and C9. */
+    static const uint8_t bytes[125] = {1, 2, 3, 4, 5, 6, 7, 8, 9, 10, 11, 12, 0xa1, 0xa2, 0xa3, 0xa4, 0xa5};
+    uint8_t out[124];
+    for (size_t i = 0; i < sizeof worked_goes / sizeof *worked_goes; i++) {
+        const struct worked_goes *w = &worked_goes[i];
+        const uint8_t *next = w->kind == EOS_MSG ? bytes + 12 : bytes;
+        size_t rest = 0, length = 0;
+        struct eos_state s = {0};
+        EXPECT_OF(w->name, starts(w, out, sizeof out, &s));
+        for (uint32_t j = 0; j < w->read_count; j++)
+            rest += w->reads[j][1];
+        for (uint32_t j = 0; j < w->piece_count; j++) {
+            size_t piece = w->pieces[j][0];
+            EXPECT_OF(w->name, answers(eos_take_piece(&s, bytes, rest + 1, out, sizeof out), EOS_PIECE_LONG, 0));
+            EXPECT_OF(w->name, answers(eos_take_piece(&s, next, piece, out, sizeof out - 1), EOS_STATE_UNFIT, 0));
+            EXPECT_OF(w->name, answers(eos_take_piece(&s, next, piece, out, sizeof out), EOS_DONE, w->pieces[j][1]));
+            next += piece;
+            rest -= piece;
+        }
+        EXPECT_OF(w->name, eos_message(&s, out, sizeof out, &length) == EOS_DONE);
+        if (w->message != NULL)
+            EXPECT_OF(w->name, length == 20 && memcmp(out, w->message, 20) == 0);
+    }
 }
 
 /* Lengths of up to three segments of the write chunks, one behind the other, and what landed in each of two chunks. */
@@ -281,6 +361,7 @@ int main(void)
     writing();
     connecting();
     reassembling();
+    counting();
     returning();
     if (failures == 0)
         printf("worked examples: as they must be\n");
