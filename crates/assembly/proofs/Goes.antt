@@ -87,9 +87,9 @@ none-for-empty s room = by (eqb (pieceNumber s room 0) 0)
 abbrev placesOf : List PulledByte → List ℕ
 placesOf = map (λ b. b .place)
 
-places-append : (u v : List PulledByte) → placesOf (u ++ v) ≡ placesOf u ++ placesOf v
-places-append [] v = refl
-places-append (a ∷ u) v = ap (λ (l : List ℕ). a .place ∷ l) (places-append u v)
+map-append : (f : PulledByte → ℕ) (u v : List PulledByte) → map f (u ++ v) ≡ map f u ++ map f v
+map-append f [] v = refl
+map-append f (a ∷ u) v = ap (λ (l : List ℕ). f a ∷ l) (map-append f u v)
 
 places-segment : (i : ℕ) (ps : List ℕ) → placesOf (ofSegment i ps) ≡ ps
 unfolding ofSegment
@@ -99,7 +99,7 @@ places-segment i (p ∷ ps) = ap (λ (l : List ℕ). p ∷ l) (places-segment i 
 places-all : (i : ℕ) (pss : List (List ℕ)) → placesOf (pulledBytes i pss) ≡ joined (λ ps. ps) pss
 unfolding pulledBytes joined
 places-all i [] = refl
-places-all i (ps ∷ pss) = places-append (ofSegment i ps) (pulledBytes (suc i) pss) ∙ rw (places-segment i ps, places-all (suc i) pss)
+places-all i (ps ∷ pss) = map-append (λ b. b .place) (ofSegment i ps) (pulledBytes (suc i) pss) ∙ rw (places-segment i ps, places-all (suc i) pss)
 
 places-take : (n : ℕ) (l : List PulledByte) → placesOf (take n l) ≡ take n (placesOf l)
 places-take zero l = refl
@@ -117,15 +117,11 @@ unfolding ofSegment
 segments-of i [] = refl
 segments-of i (p ∷ ps) = ap (λ (l : List ℕ). i ∷ l) (segments-of i ps)
 
-segments-append : (u v : List PulledByte) → map (λ b. b .segment) (u ++ v) ≡ map (λ b. b .segment) u ++ map (λ b. b .segment) v
-segments-append [] v = refl
-segments-append (a ∷ u) v = ap (λ (l : List ℕ). a .segment ∷ l) (segments-append u v)
-
 segments-dealt : (i : ℕ) (xs : List ReadSegment) (ps : List ℕ) → length ps ≡ readLength xs → map (λ b. b .segment) (pulledBytes i (dealt xs ps)) ≡ segmentNumbers i xs
 unfolding pulledBytes dealt segmentNumbers readLength
 segments-dealt i [] ps e = refl
 segments-dealt i (x ∷ xs) ps e =
-    segments-append (ofSegment i (take (x .target .length) ps)) _
+    map-append (λ b. b .segment) (ofSegment i (take (x .target .length) ps)) _
     ∙ rw (segments-of i (take (x .target .length) ps), length-take-le (x .target .length) ps (omega arith), segments-dealt (suc i) xs (drop (x .target .length) ps) (rw length-drop (omega arith)))
 
 pub in-list-order : (s : State) → canArise s ≡ true → map (λ b. b .segment) (pulledBytesOf s) ≡ segmentNumbers 0 (readsOf s)
