@@ -17,7 +17,7 @@ pub const ENDS_INSIDE_FIELD: u32 = 5;
 pub const BAD_MARKER: u32 = 6;
 // "an entry or count that goes over a limit above"
 pub const OVER_LIMIT: u32 = 7;
-// "a read position below the one before it"
+// "a read position below the one before it"; since order 3 "never given again", and reserved
 pub const POSITION_FALLS: u32 = 8;
 // "a read position that is no multiple of 4"
 pub const POSITION_UNALIGNED: u32 = 9;

@@ -8,12 +8,12 @@ use native.Mathlib.Omega.{arith}
 use lib.ListN.{length, take, drop, getD, replicate, length-take, length-drop}
 use lib.Seq.{length-take-le}
 use lib.Dec.{eqb}
-use borrow.Author.Tests.{leb-true, eqb-true, ne-eqb}
+use borrow.Author.Tests.{eqb-true, ne-eqb}
 use Rattle.answers.proofs.Checks.{both-hold, check-passed}
 use Rattle.wire.specs.Wire.{joined}
 use Rattle.wire.specs.declared.ReadSegment.{ReadSegment}
 use Rattle.layout.specs.Places.{from}
-use Rattle.layout.specs.Layout.{otherChunks, basePlaces}
+use Rattle.layout.specs.Layout.{anyAtZero, otherChunks, basePlaces}
 use Rattle.layout.specs.Internal.Walks.{readLength}
 use Rattle.layout.proofs.Passed.{place-passed}
 use Rattle.placing.specs.Segments.{dealt, segmentPlaces, segmentNumbers, positionLength}
@@ -23,6 +23,7 @@ use Rattle.placing.proofs.Goes.{fewest, goes-none}
 use Rattle.placing.proofs.Segments.{pulled-read, base-pulled, read-length, joined-dealt, dealt-at, own-run, own-base}
 use Rattle.placing.proofs.Bounds.{most-goes}
 use Rattle.assembly_state.specs.State.{State}
+use Rattle.assembly.proofs.Arises.{arises}
 use Rattle.assembly.specs.Assembly.{readsOf, chunksOf, pulledOf, canArise, fitsState, pieceNumber, pulledBytesOf, pieceGoes}
 
 -- What a state that can arise says of its list.
@@ -33,19 +34,15 @@ record Arisen (s : State) : Type 0 where
   pub places : pulledOf s ≡ readPlaces (s .base) (readsOf s)
 
 arisen : (s : State) → canArise s ≡ true → Arisen s
-unfolding canArise
 arisen s e =
-    let a = both-hold _ _ e in
-    let few : s .reads .count ≤ 16 = leb-true (s .reads .count) 16 (a .0) in
-    let b = both-hold _ _ (a .1) in
-    let c = both-hold _ _ (b .1) in
-    let d = both-hold _ _ (c .1) in
-    let p = place-passed _ _ _ _ _ (eqb-true _ 0 (c .0)) in
+    let a = arises s e in
+    let few = a .few in
+    let p = place-passed (s .kind) (anyAtZero (readsOf s)) (s .base) (chunksOf s) (s .buffer) (a .placed) in
     let long = p .long in
     record {
       few = rw length-take (omega arith);
-      checked = record { rise = eqb-true _ 0 (b .0); stand = p .stand; small = omega arith };
-      pulled = base-pulled (s .kind) (s .base) (readsOf s) (p .fits) (eqb-true _ _ (d .0));
+      checked = record { rise = a .in-order; stand = p .stand; small = omega arith };
+      pulled = base-pulled (s .kind) (s .base) (readsOf s) (p .fits) (a .based);
       places = pulled-read (s .kind) (s .base) (readsOf s) (p .fits);
     }
 

@@ -1,6 +1,6 @@
 -- What a crate above may rely on: lengths that stay, refusals that change nothing, and states that can arise.
 -- Assumes nothing.
-use mathlib.Core.Path.{_≡_, refl}
+use mathlib.Core.Path.{_≡_, refl, ap, _∙_}
 use mathlib.Core.Bool.{Bool, true, false, cond, _&&_}
 use mathlib.Core.List.{List}
 use Prim.Native.Nat.{ℕ, _+_, _≤_, _<_}
@@ -10,18 +10,22 @@ use lib.ListN.{length, drop, getD}
 use lib.Seq.{take-append-seam}
 use lib.Dec.{leb, eqb}
 use Rattle.answers.proofs.Checks.{both-hold}
-use Rattle.chunk_lists.specs.Lists.{positionsNumber}
+use Rattle.read_order.specs.ReadOrder.{sorted, isSorted}
+use Rattle.read_order.proofs.Sorting.{length-sorted, sorted-rises, aligned-sorted}
+use Rattle.assembly_start.proofs.Kept.{started-held}
+use Rattle.layout.proofs.Unseen.{others-sorted, any-sorted, base-sorted}
 use Rattle.chunk_lists.specs.Parsed.{done}
 use Rattle.header.specs.Content.{Content}
 use Rattle.reader.specs.Frame.{readFrame}
 use Rattle.reader.proofs.FrameParts.{frame-parts}
-use Rattle.layout.specs.Layout.{anyAtZero, otherChunks, baseLength, placeNumber, pulledPlaces}
+use Rattle.layout.specs.Layout.{otherChunks, placeNumber, pulledPlaces}
 use Rattle.layout.specs.Places.{scatter}
 use Rattle.layout.proofs.Passed.{base-again}
 use Rattle.layout.proofs.Scatter.{length-scatter}
 use Rattle.assembly_state.specs.State.{State}
-use Rattle.assembly_start.specs.Start.{baseOf, startNumber, startState}
-use Rattle.assembly.specs.Assembly.{readsOf, chunksOf, pulledOf, canArise, fitsState, pieceNumber, pieceBuffer, messageNumber, pieceWords}
+use Rattle.assembly_start.specs.Start.{baseOf, startNumber, startState, startWords}
+use Rattle.assembly.proofs.Arises.{arises}
+use Rattle.assembly.specs.Assembly.{readsOf, pulledOf, canArise, fitsState, pieceNumber, pieceBuffer, messageNumber, pieceWords}
 use Rattle.assembly_state.specs.Words.{stateKindAt, partsIn, stateIn, withTaken}
 use Rattle.assembly_state.proofs.Words.{other-kind, length-taken, state-taken}
 
@@ -63,11 +67,8 @@ pub count-fits : (s : State) (room taken : ℕ) → fitsState s room ≡ true �
 unfolding canArise
 count-fits s room taken e h =
     let fit = both-hold (canArise s) _ e in
-    let a = both-hold (leb (s .reads .count) 16) _ (fit .0) in
-    let b = both-hold (eqb (positionsNumber 0 (readsOf s) 0) 0) _ (a .1) in
-    let d = both-hold (eqb (placeNumber (s .kind) (anyAtZero (readsOf s)) (s .base) (chunksOf s) (s .buffer)) 0) _ (b .1) in
-    let f = both-hold (eqb (baseLength (s .kind) (s .base) (readsOf s)) (s .base)) _ (d .1) in
-    rw (a .0, b .0, d .0, f .0, le-leb taken (length (pulledOf s)) h, fit .1)
+    let a = arises s (fit .0) in
+    rw (le-leb _ _ (a .few), a .in-order, a .aligned, a .placed, eq-eqb _ _ (a .based), le-leb taken (length (pulledOf s)) h, fit .1)
 
 pub piece-fits : (s : State) (room size : ℕ) → fitsState s room ≡ true → fitsState (takenState s room size) room ≡ true
 unfolding takenState pieceNumber
@@ -83,22 +84,41 @@ module _ (frame : List ℕ) (room : ℕ) (c : Content) (inline : List ℕ) (read
   pub start-fits : fitsState (startState c inline room) room ≡ true
   unfolding canArise startNumber
   start-fits =
-      let reads : readsOf (startState c inline room) ≡ c .reads = take-append-seam (c .reads) _ in
+      let reads : readsOf (startState c inline room) ≡ sorted (c .reads) = take-append-seam (sorted (c .reads)) _ in
       rw (
-        le-leb (length (c .reads)) 16 (frame-parts frame c inline read .reads-few),
+        le-leb (length (sorted (c .reads))) 16 (rw (length-sorted (c .reads)) (frame-parts frame c inline read .reads-few)),
         reads,
-        frame-parts frame c inline read .reads-rise,
+        sorted-rises (c .reads),
+        aligned-sorted (c .reads),
+        frame-parts frame c inline read .reads-aligned,
+        any-sorted (c .reads),
+        others-sorted (c .reads),
         ok,
+        base-sorted (c .kind) (baseOf c inline) (c .reads),
         eq-eqb _ _ (base-again (c .kind) (length inline) (c .reads)),
         le-leb 0 (length (pulledPlaces (c .kind) (baseOf c inline) (otherChunks (c .reads)))) (omega arith),
         eq-eqb room room refl,
       )
 
+  -- Its list is the sorted one.
+  pub started-list : (w : List ℕ) → readsOf (stateIn (startWords (readFrame frame) room w)) ≡ sorted (c .reads)
+  started-list w = ap readsOf (started-held frame room c inline read ok w) ∙ take-append-seam (sorted (c .reads)) _
+
+-- "A state whose list is not sorted gets 17."
+not-sorted : (a b c : Bool) → ((a && (false && b)) && c) ≡ false
+not-sorted true b c = refl
+not-sorted false b c = refl
+
+pub unsorted : (s : State) (room size : ℕ) → isSorted (readsOf s) ≡ false → (pieceNumber s room size ≡ 17) × (messageNumber s room ≡ 17)
+unfolding pieceNumber messageNumber canArise
+unsorted s room size h = rw (h, not-sorted) (refl, refl)
+
 -- A kind that stands for nothing gets 17.
-no-state : (a b c d : Bool) → ((a && (b && (false && c))) && d) ≡ false
-no-state true true c d = refl
-no-state true false c d = refl
-no-state false b c d = refl
+no-state : (a b c d e : Bool) → ((a && (b && (c && (false && d)))) && e) ≡ false
+no-state true true true d e = refl
+no-state true true false d e = refl
+no-state true false c d e = refl
+no-state false b c d e = refl
 
 pub no-kind : (w : List ℕ) (room size : ℕ) → 1 < getD w stateKindAt 0 → (pieceNumber (stateIn w) room size ≡ 17) × (messageNumber (stateIn w) room ≡ 17)
 unfolding pieceNumber messageNumber canArise partsIn placeNumber

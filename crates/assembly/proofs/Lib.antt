@@ -1,3 +1,4 @@
+pub mod Arises
 pub mod StateChecks
 pub mod Pieces
 pub mod Kept

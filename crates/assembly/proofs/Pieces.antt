@@ -7,13 +7,13 @@ use Prim.Native.Nat.{ℕ, _+_, _≤_, _<_}
 use native.Mathlib.Omega.{arith}
 use borrow.Author.Tests.{le-leb, lt-leb, eq-eqb, ne-eqb, eqb-true}
 use lib.ListN.{length, take, drop}
-use lib.Dec.{leb, eqb}
+use lib.Dec.{eqb}
 use Rattle.answers.proofs.Checks.{both-hold, check-passed}
-use Rattle.chunk_lists.specs.Lists.{positionsNumber}
 use Rattle.layout.specs.Places.{scatter}
-use Rattle.layout.specs.Layout.{messageLength, anyAtZero, placeNumber}
+use Rattle.layout.specs.Layout.{messageLength, anyAtZero}
 use Rattle.placing.specs.Goes.{goes}
 use Rattle.assembly_state.specs.State.{State}
+use Rattle.assembly.proofs.Arises.{arises}
 use Rattle.assembly.specs.Assembly.{readsOf, chunksOf, pulledOf, canArise, fitsState, pieceNumber, pulledBytesOf, pieceGoes, pieceAnswer, pieceBuffer, messageNumber, messagePart, pieceWords}
 use Rattle.assembly.specs.Internal.StateCheck.{placedPiece, messageAnswer}
 use Rattle.assembly.specs.declared.PlacedPiece.{PlacedPiece}
@@ -38,13 +38,10 @@ module _ (s : State) (piece out : List ℕ) where
 
 module _ (s : State) (room : ℕ) where
   within : messageNumber s room ≡ 0 → messageLength (s .base) (chunksOf s) ≤ room
-  unfolding messageNumber canArise
+  unfolding messageNumber
   within e =
       let fit = both-hold (canArise s) _ (check-passed (fitsState s room) 17 _ (omega arith) e .0) in
-      let a = both-hold (leb (s .reads .count) 16) _ (fit .0) in
-      let b = both-hold (eqb (positionsNumber 0 (readsOf s) 0) 0) _ (a .1) in
-      let d = both-hold (eqb (placeNumber (s .kind) (anyAtZero (readsOf s)) (s .base) (chunksOf s) (s .buffer)) 0) _ (b .1) in
-      let p = place-passed (s .kind) (anyAtZero (readsOf s)) (s .base) (chunksOf s) (s .buffer) (eqb-true _ _ (d .0)) in
+      let p = place-passed (s .kind) (anyAtZero (readsOf s)) (s .base) (chunksOf s) (s .buffer) (arises s (fit .0) .placed) in
       let same = eqb-true (s .buffer) room (fit .1) in
       let holds = p .holds in
       omega arith

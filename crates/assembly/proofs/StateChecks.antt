@@ -5,11 +5,11 @@ use mathlib.Core.Bool.{Bool, true, false, _&&_}
 use mathlib.Core.List.{List}
 use Prim.Native.Nat.{ℕ, _≤_, _<_}
 use native.Mathlib.Omega.{arith}
-use borrow.Author.Tests.{le-leb, lt-leb, eq-eqb, ne-eqb, eqb-true}
+use borrow.Author.Tests.{le-leb, lt-leb, eq-eqb, ne-eqb}
 use lib.ListN.{length}
-use lib.Dec.{eqb}
 use Rattle.wire.specs.declared.ReadSegment.{ReadSegment}
-use Rattle.chunk_lists.specs.Lists.{positionsNumber}
+use Rattle.chunk_lists.specs.Lists.{allAligned}
+use Rattle.read_order.specs.ReadOrder.{isSorted}
 use Rattle.layout.specs.Layout.{messageLength, anyAtZero, zeroLength, baseLength, placeNumber}
 use Rattle.layout.specs.Internal.Walks.{sumsOf, readsCheck, layoutCheck}
 use Rattle.layout.specs.declared.Sums.{Sums}
@@ -41,24 +41,25 @@ module _ (s : State) (room : ℕ) where
   unfolding canArise
   too-many h = simp (lt-leb _ _ h)
 
-  -- Positions out of order, or chunks that do not stand.
+  -- A list that is not sorted, a position that is no multiple of 4, or chunks that do not stand.
   pub faulty-list : s .reads .count ≤ 16 → readsCheck (s .base) (readsOf s) ≡ Faulty → fitsState s room ≡ false
   unfolding canArise
-  faulty-list few e = by (eqb (positionsNumber 0 (readsOf s) 0) 0) refl
+  faulty-list few e = by (isSorted (readsOf s)) (allAligned (readsOf s)) refl refl
     where
-      misplaced-number : positionsNumber 0 (readsOf s) 0 ≡ 0 → placeNumber (s .kind) (anyAtZero (readsOf s)) (s .base) (chunksOf s) (s .buffer) ≡ 0 → ⊥
-      misplaced-number rise z =
-          let t : true ≡ false = sym (place-passed (s .kind) (anyAtZero (readsOf s)) (s .base) (chunksOf s) (s .buffer) z .stand) ∙ faulty-told (s .base) (readsOf s) e rise in
+      misplaced-number : isSorted (readsOf s) ≡ true → allAligned (readsOf s) ≡ true → placeNumber (s .kind) (anyAtZero (readsOf s)) (s .base) (chunksOf s) (s .buffer) ≡ 0 → ⊥
+      misplaced-number rise aligned z =
+          let t : true ≡ false = sym (place-passed (s .kind) (anyAtZero (readsOf s)) (s .base) (chunksOf s) (s .buffer) z .stand) ∙ faulty-told (s .base) (readsOf s) e rise aligned in
           (let n : _≡_ {A = ℕ} 0 1 = cc in omega arith)
 
-      by : (b : Bool) → eqb (positionsNumber 0 (readsOf s) 0) 0 ≡ b → fitsState s room ≡ false
-      by true p = simp (le-leb _ _ few, p, ne-eqb _ 0 (misplaced-number (eqb-true _ 0 p)))
-      by false p = simp (le-leb _ _ few, p)
+      by : (a b : Bool) → isSorted (readsOf s) ≡ a → allAligned (readsOf s) ≡ b → fitsState s room ≡ false
+      by true true p q = simp (le-leb _ _ few, p, q, ne-eqb _ 0 (misplaced-number p q))
+      by true false p q = simp (le-leb _ _ few, p, q)
+      by false b p q = simp (le-leb _ _ few, p)
 
   pub other-buffer : (s .buffer ≡ room → ⊥) → fitsState s room ≡ false
   other-buffer h = simp (ne-eqb _ _ h) (and-false (canArise s))
 
-  module _ (few : s .reads .count ≤ 16) (rise : positionsNumber 0 (readsOf s) 0 ≡ 0) (same : s .buffer ≡ room) (sums : Sums) (summed : sums ≡ sumsOf (readsOf s)) (m : LayoutCheck) (measured : m ≡ layoutCheck (s .kind) (s .base) (sums .«any_zero») (chunksOf s) room) where
+  module _ (few : s .reads .count ≤ 16) (rise : isSorted (readsOf s) ≡ true) (aligned : allAligned (readsOf s) ≡ true) (same : s .buffer ≡ room) (sums : Sums) (summed : sums ≡ sumsOf (readsOf s)) (m : LayoutCheck) (measured : m ≡ layoutCheck (s .kind) (s .base) (sums .«any_zero») (chunksOf s) room) where
     same-number : placeNumber (s .kind) (sums .«any_zero») (s .base) (chunksOf s) room ≡ placeNumber (s .kind) (anyAtZero (readsOf s)) (s .base) (chunksOf s) (s .buffer)
     same-number = rw (summed, same)
 
@@ -66,7 +67,7 @@ module _ (s : State) (room : ℕ) where
     unfolding canArise
     misplaced n e =
         let told = layout-refused (s .kind) (s .base) (sums .«any_zero») (chunksOf s) room m measured n e in
-        simp (le-leb _ _ few, eq-eqb _ _ rise, ne-eqb _ 0 (λ z. told .1 (told .0 ∙ same-number ∙ z)))
+        simp (le-leb _ _ few, rise, aligned, ne-eqb _ 0 (λ z. told .1 (told .0 ∙ same-number ∙ z)))
 
     module _ (message : ℕ) (holds : m ≡ Holds message) where
       told : (placeNumber (s .kind) (sums .«any_zero») (s .base) (chunksOf s) room ≡ 0) × (message ≡ messageLength (s .base) (chunksOf s))
@@ -84,7 +85,7 @@ module _ (s : State) (room : ℕ) where
 
         pub other-base : (base ≡ s .base → ⊥) → fitsState s room ≡ false
         unfolding canArise
-        other-base h = simp (le-leb _ _ few, eq-eqb _ _ rise, zero-number, ne-eqb _ _ (λ e. h (base-of ∙ e)))
+        other-base h = simp (le-leb _ _ few, rise, aligned, zero-number, ne-eqb _ _ (λ e. h (base-of ∙ e)))
 
         module _ (based : base ≡ s .base) where
           pulls : BasePulled (s .base) (readsOf s)
@@ -99,11 +100,11 @@ module _ (s : State) (room : ℕ) where
 
           pub over-taken : sums .«all_length» < s .taken → fitsState s room ≡ false
           unfolding canArise
-          over-taken h = simp (le-leb _ _ few, eq-eqb _ _ rise, zero-number, eq-eqb _ _ (sym base-of ∙ based), lt-leb _ _ (rw pulled-of at h))
+          over-taken h = simp (le-leb _ _ few, rise, aligned, zero-number, eq-eqb _ _ (sym base-of ∙ based), lt-leb _ _ (rw pulled-of at h))
 
           fit : s .taken ≤ length (pulledOf s) → fitsState s room ≡ true
           unfolding canArise
-          fit h = simp (le-leb _ _ few, eq-eqb _ _ rise, zero-number, eq-eqb _ _ (sym base-of ∙ based), le-leb _ _ h, eq-eqb _ _ same)
+          fit h = simp (le-leb _ _ few, rise, aligned, zero-number, eq-eqb _ _ (sym base-of ∙ based), le-leb _ _ h, eq-eqb _ _ same)
 
           pub fit-checked : (r : StateCheck) → s .taken ≤ sums .«all_length» → r ≡ record { message = message; pulled = sums .«all_length»; fits = true } → StateChecked s room r
           fit-checked r h e =

@@ -1,4 +1,4 @@
--- The pieces and the message of a reassembly (document 01, "The numbers and their order", "Where each byte of a message goes"; document 02, order 2).
+-- The pieces and the message of a reassembly (document 01, "The numbers and their order", "Where each byte of a message goes"; document 02, orders 2 and 3).
 use Prim.Native.Nat.{ℕ, _+_}
 use mathlib.Core.Bool.{Bool, cond, _&&_}
 use mathlib.Core.List.{List, []}
@@ -6,7 +6,8 @@ use lib.ListN.{length, take, drop}
 use lib.Dec.{leb, eqb}
 use Rattle.answers.specs.Answers.{check}
 use Rattle.wire.specs.declared.ReadSegment.{ReadSegment}
-use Rattle.chunk_lists.specs.Lists.{maxReadSegments, positionsNumber}
+use Rattle.chunk_lists.specs.Lists.{maxReadSegments, allAligned}
+use Rattle.read_order.specs.ReadOrder.{isSorted}
 use Rattle.layout.specs.Places.{scatter}
 use Rattle.layout.specs.Layout.{anyAtZero, otherChunks, baseLength, messageLength, placeNumber, pulledPlaces}
 use Rattle.layout.specs.declared.Run.{Run}
@@ -24,18 +25,19 @@ readsOf s = take (s .reads .count) (s .reads .segments)
 abbrev pub chunksOf : State → List Run
 chunksOf s = otherChunks (readsOf s)
 
--- "Pulled bytes then come in list order, the position-zero chunk among them": where each is put.
+-- "Pulled bytes come in this sorted order" (order 3), the position-zero chunk first: where each is put.
 abbrev pub pulledOf : State → List ℕ
 pulledOf s = pulledPlaces (s .kind) (s .base) (chunksOf s)
 
--- "A state can arise if its kind, base length, buffer length, positions and lengths pass 7, 8, 9 and 12 to 16 and its count is at most the bytes to be pulled; for NOMSG its base length is that of the position-zero chunk."
+-- "A state can arise if its kind, base length, buffer length, positions and lengths pass 7 .., 9 and 12 to 16 and its count is at most the bytes to be pulled; for NOMSG its base length is that of the position-zero chunk.", as mended by order 3, in the place of 8: "A state whose list is not sorted gets 17."
 unfoldable pub canArise : State → Bool
 canArise s =
     leb (s .reads .count) maxReadSegments
-    && (eqb (positionsNumber 0 (readsOf s) 0) 0
+    && (isSorted (readsOf s)
+    && (allAligned (readsOf s)
     && (eqb (placeNumber (s .kind) (anyAtZero (readsOf s)) (s .base) (chunksOf s) (s .buffer)) 0
     && (eqb (baseLength (s .kind) (s .base) (readsOf s)) (s .base)
-    && leb (s .taken) (length (pulledOf s)))))
+    && leb (s .taken) (length (pulledOf s))))))
 
 -- "state not one that can arise, or another buffer length than at the start" (17)
 abbrev pub fitsState : State → ℕ → Bool

@@ -114,7 +114,7 @@ fn place_piece(words: &[u32; 104], piece: &[u8], out: &mut [u8]) -> PlacedPiece
     }
 }
 
-// Takes a piece of the pulled bytes, which come in list order. Of the state, only the count changes.
+// Takes a piece of the pulled bytes, which come in the order of the list of the state. Of the state, only the count changes.
 pub fn take_piece(words: &mut [u32; 104], piece: &[u8], out: &mut [u8]) -> PieceAnswer
     ensures answer { λ r. ⌜ r ≡ pieceAnswer (stateIn (now (words .entry))) (length (now (out .entry))) (length (now (piece .entry))) ⌝ }
     ensures state { λ _. ⌜ now (words .exit) ≡ pieceWords (now (words .entry)) (length (now (out .entry))) (length (now (piece .entry))) ⌝ }

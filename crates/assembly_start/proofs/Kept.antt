@@ -12,6 +12,8 @@ use Rattle.header.specs.Content.{Content}
 use Rattle.reader.specs.Frame.{readFrame}
 use Rattle.header.specs.Words.{kindNumber}
 use Rattle.reader.proofs.FrameParts.{frame-parts}
+use Rattle.read_order.specs.ReadOrder.{sorted}
+use Rattle.read_order.proofs.Sorting.{length-sorted}
 use Rattle.layout.specs.Layout.{anyAtZero, otherChunks}
 use Rattle.layout.proofs.Scatter.{length-scatter}
 use Rattle.assembly_start.specs.Start.{baseOf, startNumber, startState, startWrites, startedBuffer, startBuffer, startWords}
@@ -44,11 +46,11 @@ start-words-refused (done c inline) room w h = simp (ne-eqb _ _ h)
 
 -- After an accepted start, whatever the words held before.
 module _ (frame : List ℕ) (room : ℕ) (c : Content) (inline : List ℕ) (read : readFrame frame ≡ done c inline) (ok : startNumber (done c inline) room ≡ 0) where
-  few : length (c .reads) ≤ 16
-  few = frame-parts frame c inline read .reads-few
+  few : length (sorted (c .reads)) ≤ 16
+  few = rw (length-sorted (c .reads)) (frame-parts frame c inline read .reads-few)
 
   full : length (startState c inline room .reads .segments) ≡ 16
-  full = padded-length (c .reads) few
+  full = padded-length (sorted (c .reads)) few
 
   known : kindNumber (c .kind) < 2
   unfolding startNumber

@@ -7,12 +7,15 @@ use Prim.Native.Nat.{ℕ, _+_, _-_, _≤_}
 use native.Mathlib.Omega.{arith}
 use borrow.Author.Tests.{ne-eqb}
 use lib.ListN.{length, take, drop, replicate, length-drop}
-use lib.Seq.{take-append-seam}
+use lib.Seq.{take-append-seam, drop-at}
 use lib.Dec.{eqb}
 use Rattle.wire.specs.Wire.{stored, zeroReadSegment}
 use Rattle.wire.specs.declared.ReadSegment.{ReadSegment}
 use Rattle.chunk_lists.specs.Parsed.{Parsed, refused, done}
-use Rattle.chunk_lists.specs.Lists.{positionsNumber}
+use Rattle.read_order.specs.ReadOrder.{sorted, isSorted}
+use Rattle.read_order.specs.Internal.Places.{sortedFirst}
+use Rattle.read_order.proofs.Sorting.{length-sorted, sorted-rises}
+use Rattle.layout.proofs.Unseen.{others-sorted, any-sorted, zero-sorted}
 use Rattle.chunk_lists.specs.Words.{readsIn, readsWords}
 use Rattle.chunk_lists.proofs.Words.{reads-back}
 use Rattle.header.specs.Content.{Content, padded, readListOf}
@@ -24,7 +27,7 @@ use Rattle.reader.proofs.FrameParts.{Found, bounds, payload-part}
 use Rattle.reader.proofs.Ends.{nomsg-ends}
 use Rattle.layout.specs.Places.{scatter}
 use Rattle.layout.proofs.Passed.{layout-holds, layout-refused, place-passed}
-use Rattle.layout.specs.Layout.{kindFits, zeroLength, otherChunks, baseLength, messageLength, placeNumber, basePlaces, paddingPlaces}
+use Rattle.layout.specs.Layout.{kindFits, anyAtZero, zeroLength, otherChunks, baseLength, messageLength, placeNumber, basePlaces, paddingPlaces}
 use Rattle.layout.specs.Internal.Walks.{sumsOf, layoutCheck}
 use Rattle.layout.specs.declared.Run.{Run}
 use Rattle.layout.specs.declared.Sums.{Sums}
@@ -41,32 +44,50 @@ inline-within Msg atZero inline reads f n = omega arith
 inline-within Nomsg atZero inline reads f n = rw (n refl) (omega arith)
 inline-within (Error x) atZero inline reads f n = absurd (let z : _≡_ {A = ℕ} 0 1 = cc in omega arith)
 
-module _ (s : List ℕ) (shape : Shape) (f : Found s shape) (words : List ℕ) (filled : words ≡ stored (replicate 104 0) 0 (readsWords (f .content .reads))) where
+-- The places of a list, padded and then sorted as far as it goes.
+padded-sorted : (n : ℕ) (l : List ReadSegment) → n ≡ length l → sortedFirst n (padded 16 zeroReadSegment l) ≡ padded 16 zeroReadSegment (sorted l)
+padded-sorted n l e =
+    ap (λ (k : ℕ). sortedFirst k (padded 16 zeroReadSegment l)) e
+    ∙ rw (take-append-seam l (replicate (16 - length l) zeroReadSegment), drop-at l (replicate (16 - length l) zeroReadSegment) (length l) refl, length-sorted l)
+
+-- A frame that was found, its read list decoded into words, and these with the list sorted.
+module _ (s : List ℕ) (shape : Shape) (f : Found s shape) (words : List ℕ) (filled : words ≡ stored (replicate 104 0) 0 (readsWords (f .content .reads)))
+    (ready : List ℕ) (sorts : (l : List ReadSegment) (rest : List ℕ) → length l ≡ 16 → words ≡ readsWords l ++ rest → ready ≡ readsWords (sortedFirst (shape .reads) l) ++ rest) where
   abbrev content : Content
   content = f .content
 
   abbrev segs : List ReadSegment
-  segs = readsIn words
+  segs = readsIn ready
+
+  abbrev inOrder : List ReadSegment
+  inOrder = sorted (f .content .reads)
 
   kind-is : shape .kind ≡ content .kind
   kind-is = ap (λ (x : Shape). x .kind) (f .shape-is)
 
-  count-is : shape .reads ≡ length (content .reads)
-  count-is = ap (λ (x : Shape). x .reads) (f .shape-is)
+  wire-count : shape .reads ≡ length (content .reads)
+  wire-count = ap (λ (x : Shape). x .reads) (f .shape-is)
 
-  -- The words hold the read list of the frame, its unused places zero.
-  words-are : words ≡ readsWords (padded 16 zeroReadSegment (content .reads)) ++ replicate 8 0
-  words-are = filled ∙ words-padded (content .reads) (f .parts .reads-few)
+  count-is : shape .reads ≡ length inOrder
+  count-is = wire-count ∙ sym (length-sorted (content .reads))
 
-  segs-are : segs ≡ padded 16 zeroReadSegment (content .reads)
-  segs-are = ap readsIn words-are ∙ reads-back _ (replicate 8 0) (padded-length (content .reads) (f .parts .reads-few))
+  few : length inOrder ≤ 16
+  few = rw (length-sorted (content .reads)) (f .parts .reads-few)
 
-  reads-are : take (shape .reads) segs ≡ content .reads
-  reads-are =
-      ap (λ (n : ℕ). take n segs) count-is ∙ ap (take (length (content .reads))) segs-are ∙ take-append-seam (content .reads) _
+  -- The words hold the read list of the frame, sorted, its unused places zero.
+  words-are : ready ≡ readsWords (padded 16 zeroReadSegment inOrder) ++ replicate 8 0
+  words-are =
+      sorts (padded 16 zeroReadSegment (content .reads)) (replicate 8 0) (padded-length (content .reads) (f .parts .reads-few)) (filled ∙ words-padded (content .reads) (f .parts .reads-few))
+      ∙ ap (λ (l : List ReadSegment). readsWords l ++ replicate 8 0) (padded-sorted (shape .reads) (content .reads) wire-count)
 
-  pub chunks-ready : (shape .reads ≤ 16) × (positionsNumber 0 (take (shape .reads) segs) 0 ≡ 0)
-  chunks-ready = (bounds s shape f .reads-few, rw reads-are (f .parts .reads-rise))
+  segs-are : segs ≡ padded 16 zeroReadSegment inOrder
+  segs-are = ap readsIn words-are ∙ reads-back _ (replicate 8 0) (padded-length inOrder few)
+
+  reads-are : take (shape .reads) segs ≡ inOrder
+  reads-are = ap (λ (n : ℕ). take n segs) count-is ∙ ap (take (length inOrder)) segs-are ∙ take-append-seam inOrder _
+
+  pub chunks-ready : (shape .reads ≤ 16) × (isSorted (take (shape .reads) segs) ≡ true)
+  chunks-ready = (bounds s shape f .reads-few, rw reads-are (sorted-rises (content .reads)))
 
   inline-is : drop (shape .end) s ≡ f .behind
   inline-is = payload-part s shape f .1 ∙ rw (f .read)
@@ -78,18 +99,27 @@ module _ (s : List ℕ) (shape : Shape) (f : Found s shape) (words : List ℕ) (
   chunks = otherChunks (take (shape .reads) segs)
 
   module _ (sums : Sums) (summed : sums ≡ sumsOf (take (shape .reads) segs)) (base : ℕ) (b : (reads : List ReadSegment) → sums .«zero_length» ≡ zeroLength reads → base ≡ baseLength (shape .kind) (length s - shape .end) reads) (room : ℕ) (m : LayoutCheck) (measured : m ≡ layoutCheck (shape .kind) base (sums .«any_zero») chunks room) where
-    sums-are : sums ≡ sumsOf (content .reads)
+    sums-are : sums ≡ sumsOf inOrder
     sums-are = summed ∙ ap sumsOf reads-are
+
+    zero-is : sums .«zero_length» ≡ zeroLength (content .reads)
+    zero-is = ap (λ (x : Sums). x .«zero_length») sums-are ∙ zero-sorted (content .reads)
+
+    any-is : sums .«any_zero» ≡ anyAtZero (content .reads)
+    any-is = ap (λ (x : Sums). x .«any_zero») sums-are ∙ any-sorted (content .reads)
+
+    chunks-are : chunks ≡ otherChunks (content .reads)
+    chunks-are = ap otherChunks reads-are ∙ others-sorted (content .reads)
 
     base-is : base ≡ baseOf content (f .behind)
     base-is =
-        b (content .reads) (ap (λ (x : Sums). x .«zero_length») sums-are)
+        b (content .reads) zero-is
         ∙ (λ i. baseLength (kind-is i) (inline-length i) (content .reads))
 
     number-is : placeNumber (shape .kind) (sums .«any_zero») base chunks room ≡ startNumber (readFrame s) room
     unfolding startNumber
     number-is =
-        (λ i. placeNumber (kind-is i) (sums-are i .«any_zero») (base-is i) (otherChunks (reads-are i)) room)
+        (λ i. placeNumber (kind-is i) (any-is i) (base-is i) (chunks-are i) room)
         ∙ ap (λ (p : Parsed Content). startNumber p room) (sym (f .read))
 
     pub not-started-is : (n : ℕ) → m ≡ Refused n → (out w : List ℕ) → length out ≡ room → (n ≡ startNumber (readFrame s) room) × ((w ≡ startWords (readFrame s) room w) × (out ≡ startBuffer (readFrame s) out))
@@ -114,16 +144,16 @@ module _ (s : List ℕ) (shape : Shape) (f : Found s shape) (words : List ℕ) (
           let inline = inline-length in
           (record { rise = chunks-ready .1; stand = p .stand; small = omega arith }, p .holds, omega arith)
 
-      pub started-is : (out after w state : List ℕ) → length out ≡ room → state ≡ stored words 96 (partsWords (record { kind = shape .kind; count = shape .reads; base = base; buffer = room; taken = 0 })) → after ≡ startWrites base chunks (drop (shape .end) s) out →
+      pub started-is : (out after w state : List ℕ) → length out ≡ room → state ≡ stored ready 96 (partsWords (record { kind = shape .kind; count = shape .reads; base = base; buffer = room; taken = 0 })) → after ≡ startWrites base chunks (drop (shape .end) s) out →
           (0 ≡ startNumber (readFrame s) room) × ((state ≡ startWords (readFrame s) room w) × (after ≡ startBuffer (readFrame s) out))
       unfolding startWords startBuffer
       started-is out after w state l kept z =
           let passed : startNumber (done content (f .behind)) room ≡ 0 = ap (λ (p : Parsed Content). startNumber p room) (sym (f .read)) ∙ sym number-is ∙ passes in
-          let whole : state ≡ stateWords (record { reads = readListOf (content .reads); kind = shape .kind; base = base; buffer = room; taken = 0 }) =
-          kept ∙ (λ i. stored (words-are i) 96 (partsWords (record { kind = shape .kind; count = count-is i; base = base; buffer = room; taken = 0 }))) ∙ parts-stored (record { reads = readListOf (content .reads); kind = shape .kind; base = base; buffer = room; taken = 0 }) (padded-length (content .reads) (f .parts .reads-few)) in
-          let made : stateWords (record { reads = readListOf (content .reads); kind = shape .kind; base = base; buffer = room; taken = 0 }) ≡ stateWords (startState content (f .behind) room) =
-          (λ i. stateWords (record { reads = readListOf (content .reads); kind = kind-is i; base = base-is i; buffer = room; taken = 0 })) in
-          let buffer : startWrites base chunks (drop (shape .end) s) out ≡ startedBuffer (done content (f .behind)) out = (λ i. startWrites (base-is i) (otherChunks (reads-are i)) (inline-is i) out) in
+          let whole : state ≡ stateWords (record { reads = readListOf inOrder; kind = shape .kind; base = base; buffer = room; taken = 0 }) =
+          kept ∙ (λ i. stored (words-are i) 96 (partsWords (record { kind = shape .kind; count = count-is i; base = base; buffer = room; taken = 0 }))) ∙ parts-stored (record { reads = readListOf inOrder; kind = shape .kind; base = base; buffer = room; taken = 0 }) (padded-length inOrder few) in
+          let made : stateWords (record { reads = readListOf inOrder; kind = shape .kind; base = base; buffer = room; taken = 0 }) ≡ stateWords (startState content (f .behind) room) =
+          (λ i. stateWords (record { reads = readListOf inOrder; kind = kind-is i; base = base-is i; buffer = room; taken = 0 })) in
+          let buffer : startWrites base chunks (drop (shape .end) s) out ≡ startedBuffer (done content (f .behind)) out = (λ i. startWrites (base-is i) (chunks-are i) (inline-is i) out) in
           simp (l, f .read, passed) (refl, (whole ∙ made, z ∙ buffer))
 
 -- A frame that the reader refuses.

@@ -1,4 +1,4 @@
--- The start of a reassembly (document 01, "The numbers and their order", "Where each byte of a message goes").
+-- The start of a reassembly (document 01, "The numbers and their order", "Where each byte of a message goes"; document 02, order 3).
 use Prim.Native.Nat.{ℕ}
 use mathlib.Core.Bool.{cond}
 use mathlib.Core.List.{List}
@@ -6,6 +6,7 @@ use lib.ListN.{length, replicate}
 use lib.Dec.{eqb}
 use Rattle.chunk_lists.specs.Parsed.{Parsed, refused, done}
 use Rattle.header.specs.Content.{Content, readListOf}
+use Rattle.read_order.specs.ReadOrder.{sorted}
 use Rattle.layout.specs.Places.{scatter}
 use Rattle.layout.specs.Layout.{anyAtZero, otherChunks, baseLength, placeNumber, basePlaces, paddingPlaces}
 use Rattle.layout.specs.declared.Run.{Run}
@@ -22,9 +23,9 @@ unfoldable pub startNumber : Parsed Content → ℕ → ℕ
 startNumber (refused n) room = n
 startNumber (done c inline) room = placeNumber (c .kind) (anyAtZero (c .reads)) (baseOf c inline) (otherChunks (c .reads)) room
 
--- "a start leaves its unused places zero": the state behind a start that is accepted.
+-- "a start leaves its unused places zero"; "For reassembly the list of read segments is sorted" (order 3): the state behind a start that is accepted.
 abbrev pub startState : Content → List ℕ → ℕ → State
-startState c inline room = record { reads = readListOf (c .reads); kind = c .kind; base = baseOf c inline; buffer = room; taken = 0 }
+startState c inline room = record { reads = readListOf (sorted (c .reads)); kind = c .kind; base = baseOf c inline; buffer = room; taken = 0 }
 
 -- "The start writes an inline base and all padding. Places of pulled bytes keep what they held."
 unfoldable pub startWrites : ℕ → List Run → List ℕ → List ℕ → List ℕ

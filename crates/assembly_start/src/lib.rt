@@ -49,6 +49,7 @@ pub fn start_into(frame: &[u8], out: &mut [u8], words: &mut [u32; 104]) -> u32
     let end = shape.end;
     let mut state = [0u32; 104];
     reader::decode_frame_reads(frame, shape, &mut state);
+    read_order::sort_reads(&mut state, n);
     let sums = layout::sums_of(&state, n);
     let base = layout::base_length(kind, frame.len() - end, sums.zero_length);
     let measured = layout::check_layout(kind, base, sums.any_zero, &state, n, room);

@@ -18,7 +18,7 @@ pub extern "C" fn eos_start(frame: &[u8], out: &mut [u8], state: &mut [u32; 104]
     assembly_start::start_into(frame, out, state)
 }
 
-// Takes a piece of the pulled bytes, which come in list order. Of the state, only the count changes.
+// Takes a piece of the pulled bytes, which come in the order of the list of the state. Of the state, only the count changes.
 #[no_mangle]
 pub extern "C" fn eos_take_piece(
     state: &mut [u32; 104],

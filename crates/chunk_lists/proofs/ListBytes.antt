@@ -9,13 +9,13 @@ use native.Mathlib.Omega.{arith}
 use native.Mathlib.Nat.{add-zero, suc-mul, div-add-mod', mod-lt}
 use lib.ListN.{length, drop, getD, length-drop, length-append}
 use lib.Seq.{drop-drop}
-use borrow.Author.Tests.{eq-eqb, le-leb}
+use borrow.Author.Tests.{eq-eqb}
 use Rattle.wire.specs.Wire.{wordAt, segmentAt, readSegmentAt, zeroSegment, zeroReadSegment, joined}
 use Rattle.wire.proofs.Fields.{segment-drop, read-segment-drop}
 use Rattle.wire.specs.declared.Segment.{Segment}
 use Rattle.wire.specs.declared.ReadSegment.{ReadSegment}
 use Rattle.chunk_lists.specs.Parsed.{Parsed, refused, done, prepend, each}
-use Rattle.chunk_lists.specs.Lists.{markerOf, readList, positionsNumber, counted, writeList, replyChunk}
+use Rattle.chunk_lists.specs.Lists.{markerOf, readList, allAligned, counted, writeList, replyChunk}
 use Rattle.chunk_lists.specs.Internal.Steps.{isEnd, chunkStep, listCheck, packedCheck, markedSegmentAt, chunksAt, ChunksFit}
 use Rattle.chunk_lists.specs.declared.Marker.{Marker}
 use Rattle.chunk_lists.specs.declared.Marker.the-variants as marker
@@ -85,46 +85,46 @@ reads-more room s x xs t h e r =
       behind = r .behind ∙ rw (drop-drop (4 + length xs * 24) 24 s, n);
     }
 
-pub reads-of : (room last : ℕ) (s : List ℕ) (l : List ReadSegment) (t : List ℕ) → readList room last s ≡ done l t → ReadsAre room s l t
-reads-of zero last s l t e = go (read-front zero last s)
+pub reads-of : (room : ℕ) (s : List ℕ) (l : List ReadSegment) (t : List ℕ) → readList room s ≡ done l t → ReadsAre room s l t
+reads-of zero s l t e = go (read-front zero s)
   where
-    go : ReadFront zero last s → ReadsAre zero s l t
+    go : ReadFront zero s → ReadsAre zero s l t
     go (ends f h is) = reads-none zero s l t h (sym is ∙ e)
     go (faulty n f small is) = absurd (never (sym is ∙ e))
-    go (laws.ReadFront.another x f h long at4 is aligned rises) = absurd (omega arith)
-reads-of (suc room) last s l t e = go (read-front (suc room) last s) (reads-of room)
+    go (laws.ReadFront.another x f h long at4 is aligned) = absurd (omega arith)
+reads-of (suc room) s l t e = go (read-front (suc room) s) (reads-of room)
   where
-    go : ReadFront (suc room) last s → ((last : ℕ) (s : List ℕ) (l : List ReadSegment) (t : List ℕ) → readList room last s ≡ done l t → ReadsAre room s l t) → ReadsAre (suc room) s l t
+    go : ReadFront (suc room) s → ((s : List ℕ) (l : List ReadSegment) (t : List ℕ) → readList room s ≡ done l t → ReadsAre room s l t) → ReadsAre (suc room) s l t
     go (ends f h is) again = reads-none (suc room) s l t h (sym is ∙ e)
     go (faulty n f small is) again = absurd (never (sym is ∙ e))
-    go (laws.ReadFront.another x f h long at4 is aligned rises) again =
+    go (laws.ReadFront.another x f h long at4 is aligned) again =
         let r : suc room - 1 ≡ room = omega arith in
-        let q : prepend x (readList room (x .position) (drop 24 s)) ≡ done l t = rw (← r) (sym is ∙ e) in
-        let m = longer x (readList room (x .position) (drop 24 s)) l t q in
-        rw (m .is) (reads-more room s x (m .rest) t long at4 (again (x .position) (drop 24 s) (m .rest) t (m .read)))
+        let q : prepend x (readList room (drop 24 s)) ≡ done l t = rw (← r) (sym is ∙ e) in
+        let m = longer x (readList room (drop 24 s)) l t q in
+        rw (m .is) (reads-more room s x (m .rest) t long at4 (again (drop 24 s) (m .rest) t (m .read)))
 
 none-of : {l : List ReadSegment} {s t : List ℕ} → done [] s ≡ done l t → l ≡ []
 none-of e = cc
 
--- The positions of a read list that was read are in order.
-pub reads-rise : (room last : ℕ) (s : List ℕ) (l : List ReadSegment) (t : List ℕ) → readList room last s ≡ done l t → positionsNumber last l 0 ≡ 0
-unfolding positionsNumber
-reads-rise zero last s l t e = go (read-front zero last s)
+-- The positions of a read list that was read are multiples of 4.
+pub reads-aligned : (room : ℕ) (s : List ℕ) (l : List ReadSegment) (t : List ℕ) → readList room s ≡ done l t → allAligned l ≡ true
+unfolding allAligned
+reads-aligned zero s l t e = go (read-front zero s)
   where
-    go : ReadFront zero last s → positionsNumber last l 0 ≡ 0
+    go : ReadFront zero s → allAligned l ≡ true
     go (ends f h is) = let none-read : l ≡ [] = none-of (sym is ∙ e) in rw none-read
     go (faulty n f small is) = absurd (never (sym is ∙ e))
-    go (laws.ReadFront.another x f h long at4 is aligned rises) = absurd (omega arith)
-reads-rise (suc room) last s l t e = go (read-front (suc room) last s) (reads-rise room)
+    go (laws.ReadFront.another x f h long at4 is aligned) = absurd (omega arith)
+reads-aligned (suc room) s l t e = go (read-front (suc room) s) (reads-aligned room)
   where
-    go : ReadFront (suc room) last s → ((last : ℕ) (s : List ℕ) (l : List ReadSegment) (t : List ℕ) → readList room last s ≡ done l t → positionsNumber last l 0 ≡ 0) → positionsNumber last l 0 ≡ 0
+    go : ReadFront (suc room) s → ((s : List ℕ) (l : List ReadSegment) (t : List ℕ) → readList room s ≡ done l t → allAligned l ≡ true) → allAligned l ≡ true
     go (ends f h is) again = let none-read : l ≡ [] = none-of (sym is ∙ e) in rw none-read
     go (faulty n f small is) again = absurd (never (sym is ∙ e))
-    go (laws.ReadFront.another x f h long at4 is aligned rises) again =
+    go (laws.ReadFront.another x f h long at4 is aligned) again =
         let r : suc room - 1 ≡ room = omega arith in
-        let q : prepend x (readList room (x .position) (drop 24 s)) ≡ done l t = rw (← r) (sym is ∙ e) in
-        let m = longer x (readList room (x .position) (drop 24 s)) l t q in
-        rw (m .is, eq-eqb _ _ aligned, le-leb _ _ rises) (again (x .position) (drop 24 s) (m .rest) t (m .read))
+        let q : prepend x (readList room (drop 24 s)) ≡ done l t = rw (← r) (sym is ∙ e) in
+        let m = longer x (readList room (drop 24 s)) l t q in
+        rw (m .is, eq-eqb _ _ aligned) (again (drop 24 s) (m .rest) t (m .read))
 
 -- A fault behind an entry.
 prepend-refused : {A : Type 0} (x : A) (p : Parsed (List A)) (n : ℕ) → prepend x p ≡ refused n → p ≡ refused n
@@ -132,22 +132,22 @@ prepend-refused x (refused m) n q = q
 prepend-refused x (done l t) n q = absurd (never (sym q))
 
 -- No fault of a read list has a number above 9.
-pub read-number : (room last : ℕ) (s : List ℕ) (n : ℕ) → readList room last s ≡ refused n → n ≤ 9
-read-number zero last s n e = go (read-front zero last s)
+pub read-number : (room : ℕ) (s : List ℕ) (n : ℕ) → readList room s ≡ refused n → n ≤ 9
+read-number zero s n e = go (read-front zero s)
   where
-    go : ReadFront zero last s → n ≤ 9
+    go : ReadFront zero s → n ≤ 9
     go (ends f h is) = absurd (never (sym e ∙ is))
     go (faulty m f small is) = let same : refused m ≡ refused n = sym is ∙ e in let equal : m ≡ n = cc in omega arith
-    go (laws.ReadFront.another x f h long at4 is aligned rises) = absurd (omega arith)
-read-number (suc room) last s n e = go (read-front (suc room) last s) (read-number room)
+    go (laws.ReadFront.another x f h long at4 is aligned) = absurd (omega arith)
+read-number (suc room) s n e = go (read-front (suc room) s) (read-number room)
   where
-    go : ReadFront (suc room) last s → ((last : ℕ) (s : List ℕ) (n : ℕ) → readList room last s ≡ refused n → n ≤ 9) → n ≤ 9
+    go : ReadFront (suc room) s → ((s : List ℕ) (n : ℕ) → readList room s ≡ refused n → n ≤ 9) → n ≤ 9
     go (ends f h is) again = absurd (never (sym e ∙ is))
     go (faulty m f small is) again = let same : refused m ≡ refused n = sym is ∙ e in let equal : m ≡ n = cc in omega arith
-    go (laws.ReadFront.another x f h long at4 is aligned rises) again =
+    go (laws.ReadFront.another x f h long at4 is aligned) again =
         let r : suc room - 1 ≡ room = omega arith in
-        let q : prepend x (readList room (x .position) (drop 24 s)) ≡ refused n = rw (← r) (sym is ∙ e) in
-        again (x .position) (drop 24 s) n (prepend-refused x (readList room (x .position) (drop 24 s)) n q)
+        let q : prepend x (readList room (drop 24 s)) ≡ refused n = rw (← r) (sym is ∙ e) in
+        again (drop 24 s) n (prepend-refused x (readList room (drop 24 s)) n q)
 
 -- A list by the answer as one number, where no list has an answer from 256 on and no fault a number above 9.
 pub record Packed {A : Type 0} (f : List A → ℕ) (p : Parsed (List A)) (r : ℕ) : Type 0 where
@@ -182,21 +182,21 @@ module _ {A : Type 0} (f : List A → ℕ) (p : Parsed (List A)) (r : ℕ) (e : 
       go (done l t) is same = record { list = l; behind = t; read = is; answer = same }
 
 -- The read list at the front of s, by the answer as one number.
-module _ (s : List ℕ) (r : ℕ) (e : r ≡ packedCheck (readAnswer 16) (readList 16 0 s)) where
-  few-entries : (l : List ReadSegment) (t : List ℕ) → readList 16 0 s ≡ done l t → readAnswer 16 l < 256
-  few-entries l t q = omega (arith, reads-of 16 0 s l t q .few)
+module _ (s : List ℕ) (r : ℕ) (e : r ≡ packedCheck (readAnswer 16) (readList 16 s)) where
+  few-entries : (l : List ReadSegment) (t : List ℕ) → readList 16 s ≡ done l t → readAnswer 16 l < 256
+  few-entries l t q = omega (arith, reads-of 16 s l t q .few)
 
   pub entries-number : r ≤ 265
-  entries-number = packed-number _ (readList 16 0 s) r e (read-number 16 0 s) few-entries
+  entries-number = packed-number _ (readList 16 s) r e (read-number 16 s) few-entries
 
-  pub entries-refused : 256 ≤ r → walk.Refused (r - 256) ≡ listCheck 0 (readList 16 0 s)
-  entries-refused = packed-refused _ (readList 16 0 s) r e few-entries
+  pub entries-refused : 256 ≤ r → walk.Refused (r - 256) ≡ listCheck 0 (readList 16 s)
+  entries-refused = packed-refused _ (readList 16 s) r e few-entries
 
-  entries-of : r < 256 → (4 + r * 24 ≤ length s) × (walk.Done r (length s - 4 - r * 24) ≡ listCheck 0 (readList 16 0 s))
+  entries-of : r < 256 → (4 + r * 24 ≤ length s) × (walk.Done r (length s - 4 - r * 24) ≡ listCheck 0 (readList 16 s))
   unfolding listCheck
   entries-of h =
-      let k = packed-done _ (readList 16 0 s) r e h in
-      let a = reads-of 16 0 s (k .list) (k .behind) (k .read) in
+      let k = packed-done _ (readList 16 s) r e h in
+      let a = reads-of 16 s (k .list) (k .behind) (k .read) in
       let many : r ≡ length (k .list) = omega (arith, k .answer) in
       let size : length (k .behind) ≡ length s - (4 + length (k .list) * 24) = ap length (a .behind) ∙ length-drop (4 + length (k .list) * 24) s in
       let left : length s - 4 - r * 24 ≡ length (k .behind) = omega arith in
@@ -206,7 +206,7 @@ module _ (s : List ℕ) (r : ℕ) (e : r ≡ packedCheck (readAnswer 16) (readLi
   pub entries-long : r < 256 → 4 + r * 24 ≤ length s
   entries-long h = entries-of h .0
 
-  pub entries-done : r < 256 → walk.Done r (length s - 4 - r * 24) ≡ listCheck 0 (readList 16 0 s)
+  pub entries-done : r < 256 → walk.Done r (length s - 4 - r * 24) ≡ listCheck 0 (readList 16 s)
   entries-done h = entries-of h .1
 
 -- A write list that was read.
@@ -341,9 +341,9 @@ module _ (s : List ℕ) (m : Marker) (is : m ≡ markerOf s) (end : Bool) (is-en
   unfolding listCheck
   none-listed p e = rw (e, length-drop 4 s)
 
-  pub no-entries : walk.Done 0 (length s - 4) ≡ listCheck 0 (readList 16 0 s)
+  pub no-entries : walk.Done 0 (length s - 4) ≡ listCheck 0 (readList 16 s)
   unfolding readList
-  no-entries = none-listed (readList 16 0 s) (rw end-is)
+  no-entries = none-listed (readList 16 s) (rw end-is)
 
   pub no-chunks : walk.Done 0 (length s - 4) ≡ listCheck 0 (writeList 4 16 s)
   no-chunks = none-listed (writeList 4 16 s) (writes-end 16 s 4 end-is)

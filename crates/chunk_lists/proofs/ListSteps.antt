@@ -98,21 +98,19 @@ module _ {A : Type 0} (fault : ℕ → A) (end entry : A) (room : ℕ) (s : List
   marked-entry e some-left = rw (← is, e, ne-eqb room 0 some-left)
 
 -- An entry that was read has its 20 bytes.
-pub record Entry (last : ℕ) (s : List ℕ) (x : ReadSegment) (u : List ℕ) : Type 0 where
+pub record Entry (s : List ℕ) (x : ReadSegment) (u : List ℕ) : Type 0 where
   pub long : 20 ≤ length s
   pub is : x ≡ readSegmentAt s 0
   pub behind : u ≡ drop 20 s
   pub aligned : wordAt s 0 % 4 ≡ 0
-  pub rises : last ≤ wordAt s 0
 
-pub entry-of : (last : ℕ) (s : List ℕ) (x : ReadSegment) (u : List ℕ) → readEntry last s ≡ done x u → Entry last s x u
+pub entry-of : (s : List ℕ) (x : ReadSegment) (u : List ℕ) → readEntry s ≡ done x u → Entry s x u
 unfolding readEntry
-entry-of last s x u e =
+entry-of s x u e =
     let a = required (leb 20 (length s)) _ _ e in
     let b = required (eqb (wordAt s 0 % 4) 0) _ _ (a .1) in
-    let c = required (leb last (wordAt s 0)) _ _ (b .1) in
-    let d : done (readSegmentAt s 0) (drop 20 s) ≡ done x u = c .1 in
-    record { long = leb-true 20 (length s) (a .0); is = cc; behind = cc; aligned = eqb-true (wordAt s 0 % 4) 0 (b .0); rises = leb-true last (wordAt s 0) (c .0) }
+    let d : done (readSegmentAt s 0) (drop 20 s) ≡ done x u = b .1 in
+    record { long = leb-true 20 (length s) (a .0); is = cc; behind = cc; aligned = eqb-true (wordAt s 0 % 4) 0 (b .0) }
 
 -- The numbers that a marker and an entry can give.
 pub marker-number : (s : List ℕ) (n : ℕ) → markerOf s ≡ marker.Refused n → n ≤ 9
@@ -128,52 +126,51 @@ marker-number s n e = go (leb 4 (length s)) e
     go true q = valued (eqb (wordAt s 0) 0) (eqb (wordAt s 0) 1) q
     go false q = let five : 5 ≡ n = cc in omega arith
 
-entry-number : (last : ℕ) (s : List ℕ) (n : ℕ) → readEntry last s ≡ refused n → n ≤ 9
+entry-number : (s : List ℕ) (n : ℕ) → readEntry s ≡ refused n → n ≤ 9
 unfolding readEntry
-entry-number last s n e = go (leb 20 (length s)) (eqb (wordAt s 0 % 4) 0) (leb last (wordAt s 0)) e
+entry-number s n e = go (leb 20 (length s)) (eqb (wordAt s 0 % 4) 0) e
   where
-    go : (a b c : Bool) → require a 5 (require b 9 (require c 8 (done (readSegmentAt s 0) (drop 20 s)))) ≡ refused n → n ≤ 9
-    go true true true q = absurd (never (sym q))
-    go true true false q = let eight : 8 ≡ n = cc in omega arith
-    go true false c q = let nine : 9 ≡ n = cc in omega arith
-    go false b c q = let five : 5 ≡ n = cc in omega arith
+    go : (a b : Bool) → require a 5 (require b 9 (done (readSegmentAt s 0) (drop 20 s))) ≡ refused n → n ≤ 9
+    go true true q = absurd (never (sym q))
+    go true false q = let nine : 9 ≡ n = cc in omega arith
+    go false b q = let five : 5 ≡ n = cc in omega arith
 
 position-of : (x : ReadSegment) (s : List ℕ) → x ≡ readSegmentAt s 0 → x .position ≡ wordAt s 0
 unfolding readSegmentAt
 position-of x s e = ap (λ (y : ReadSegment). y .position) e
 
 -- The three things that can stand at the front of a read list.
-pub data ReadFront (room last : ℕ) (s : List ℕ) : Type 0 where
-  ends : readStep room last s ≡ read.End → 4 ≤ length s → readList room last s ≡ done [] (drop 4 s) → ReadFront room last s
-  faulty : (n : ℕ) → readStep room last s ≡ read.Refused n → n ≤ 9 → readList room last s ≡ refused n → ReadFront room last s
-  another : (x : ReadSegment) → readStep room last s ≡ read.Entry (x .position) → 0 < room → 24 ≤ length s → x ≡ readSegmentAt s 4 →
-      readList room last s ≡ prepend x (readList (room - 1) (x .position) (drop 24 s)) → x .position % 4 ≡ 0 → last ≤ x .position → ReadFront room last s
+pub data ReadFront (room : ℕ) (s : List ℕ) : Type 0 where
+  ends : readStep room s ≡ read.End → 4 ≤ length s → readList room s ≡ done [] (drop 4 s) → ReadFront room s
+  faulty : (n : ℕ) → readStep room s ≡ read.Refused n → n ≤ 9 → readList room s ≡ refused n → ReadFront room s
+  another : (x : ReadSegment) → readStep room s ≡ read.Entry → 0 < room → 24 ≤ length s → x ≡ readSegmentAt s 4 →
+      readList room s ≡ prepend x (readList (room - 1) (drop 24 s)) → x .position % 4 ≡ 0 → ReadFront room s
 
-pub read-front : (room last : ℕ) (s : List ℕ) → ReadFront room last s
+pub read-front : (room : ℕ) (s : List ℕ) → ReadFront room s
 unfolding readStep readList
-read-front zero last s = go (markerOf s) refl
+read-front zero s = go (markerOf s) refl
   where
-    go : (m : Marker) → markerOf s ≡ m → ReadFront zero last s
+    go : (m : Marker) → markerOf s ≡ m → ReadFront zero s
     go (marker.Refused n) e = faulty n (rw e) (marker-number s n e) (rw e)
     go marker.End e = ends (rw e) (end-room s e) (rw e)
     go marker.Entry e = faulty 7 (rw e) (omega arith) (rw e)
-read-front (suc room) last s = go (markerOf s) refl
+read-front (suc room) s = go (markerOf s) refl
   where
-    entered : markerOf s ≡ marker.Entry → (p : Parsed ReadSegment) → readEntry last (drop 4 s) ≡ p → ReadFront (suc room) last s
-    entered e (refused n) q = faulty n (rw (e, eqb·suc-zero room, q)) (entry-number last (drop 4 s) n q) (rw (e, q))
+    entered : markerOf s ≡ marker.Entry → (p : Parsed ReadSegment) → readEntry (drop 4 s) ≡ p → ReadFront (suc room) s
+    entered e (refused n) q = faulty n (rw (e, eqb·suc-zero room, q)) (entry-number (drop 4 s) n q) (rw (e, q))
     entered e (done x u) q =
-        let h = entry-of last (drop 4 s) x u q in
+        let h = entry-of (drop 4 s) x u q in
         let four = entry-room s e in
         let is : x ≡ readSegmentAt s 4 = h .is ∙ read-segment-drop 4 0 s in
         let rest : u ≡ drop 24 s = h .behind ∙ drop-drop 20 4 s in
         let room-is : suc room - 1 ≡ room = omega arith in
         let at-four : x .position ≡ wordAt (drop 4 s) 0 = position-of x (drop 4 s) (h .is) in
-        another x (rw (e, eqb·suc-zero room, q)) (omega arith) (omega (arith, h .long, length-drop 4 s)) is (rw (e, q, rest, room-is)) (rw at-four (h .aligned)) (rw at-four (h .rises))
+        another x (rw (e, eqb·suc-zero room, q)) (omega arith) (omega (arith, h .long, length-drop 4 s)) is (rw (e, q, rest, room-is)) (rw at-four (h .aligned))
 
-    go : (m : Marker) → markerOf s ≡ m → ReadFront (suc room) last s
+    go : (m : Marker) → markerOf s ≡ m → ReadFront (suc room) s
     go (marker.Refused n) e = faulty n (rw e) (marker-number s n e) (rw e)
     go marker.End e = ends (rw e) (end-room s e) (rw e)
-    go marker.Entry e = entered e (readEntry last (drop 4 s)) refl
+    go marker.Entry e = entered e (readEntry (drop 4 s)) refl
 
 -- A counted run that was read: its count word, and its segments behind it.
 pub record Counted (left : ℕ) (s : List ℕ) (c : List Segment) (u : List ℕ) : Type 0 where
@@ -276,44 +273,42 @@ packed-prepend f g x (done l t) e = e l
 abbrev pub readAnswer : ℕ → List ReadSegment → ℕ
 readAnswer room = λ l. 16 - room + length l
 
--- The list goes on behind an entry at the position p.
-record Further (room last : ℕ) (s : List ℕ) (p : ℕ) : Type 0 where
+-- The list goes on behind an entry.
+record Further (room : ℕ) (s : List ℕ) : Type 0 where
   first : ReadSegment
   room-left : 0 < room
   long : 24 ≤ length s
-  is : readList room last s ≡ prepend first (readList (room - 1) p (drop 24 s))
+  is : readList room s ≡ prepend first (readList (room - 1) (drop 24 s))
 
 -- What a checking of the read list answers, by its step.
-module _ (room last : ℕ) (s : List ℕ) (step : ReadStep) (is-step : step ≡ readStep room last s) where
-  pub read-end : step ≡ read.End → 16 - room ≡ packedCheck (readAnswer room) (readList room last s)
+module _ (room : ℕ) (s : List ℕ) (step : ReadStep) (is-step : step ≡ readStep room s) where
+  pub read-end : step ≡ read.End → 16 - room ≡ packedCheck (readAnswer room) (readList room s)
   unfolding packedCheck
-  read-end e = go (read-front room last s)
+  read-end e = go (read-front room s)
     where
-      go : ReadFront room last s → 16 - room ≡ packedCheck (readAnswer room) (readList room last s)
+      go : ReadFront room s → 16 - room ≡ packedCheck (readAnswer room) (readList room s)
       go (ends h long is) = rw is (omega arith)
       go (faulty n f small is) = absurd (let z : _≡_ {A = ℕ} 0 1 = cc in omega arith)
-      go (another x f pos long at4 is aligned rises) = absurd (let z : _≡_ {A = ℕ} 0 1 = cc in omega arith)
+      go (another x f pos long at4 is aligned) = absurd (let z : _≡_ {A = ℕ} 0 1 = cc in omega arith)
 
-  pub read-refused : (n : ℕ) → step ≡ read.Refused n → (f : List ReadSegment → ℕ) → 256 + n ≡ packedCheck f (readList room last s)
+  pub read-refused : (n : ℕ) → step ≡ read.Refused n → (f : List ReadSegment → ℕ) → 256 + n ≡ packedCheck f (readList room s)
   unfolding packedCheck
-  read-refused n e g = go (read-front room last s)
+  read-refused n e g = go (read-front room s)
     where
-      go : ReadFront room last s → 256 + n ≡ packedCheck g (readList room last s)
+      go : ReadFront room s → 256 + n ≡ packedCheck g (readList room s)
       go (ends f long is) = absurd (let z : _≡_ {A = ℕ} 0 1 = cc in omega arith)
       go (faulty m f small is) = let same : n ≡ m = cc in rw (is, same)
-      go (another x f pos long at4 is aligned rises) = absurd (let z : _≡_ {A = ℕ} 0 1 = cc in omega arith)
+      go (another x f pos long at4 is aligned) = absurd (let z : _≡_ {A = ℕ} 0 1 = cc in omega arith)
 
   -- At an entry: there is room for it, its bytes are there, and the answer is that of the list behind it.
-  module _ (p : ℕ) (e : step ≡ read.Entry p) where
-    read-further : Further room last s p
-    read-further = go (read-front room last s)
+  module _ (e : step ≡ read.Entry) where
+    read-further : Further room s
+    read-further = go (read-front room s)
       where
-        go : ReadFront room last s → Further room last s p
+        go : ReadFront room s → Further room s
         go (ends f long is) = absurd (let z : _≡_ {A = ℕ} 0 1 = cc in omega arith)
         go (faulty m f small is) = absurd (let z : _≡_ {A = ℕ} 0 1 = cc in omega arith)
-        go (another x f pos long at4 is aligned rises) =
-            let same : p ≡ x .position = cc in
-            record { first = x; room-left = pos; long = long; is = is ∙ rw same }
+        go (another x f pos long at4 is aligned) = record { first = x; room-left = pos; long = long; is = is }
 
     pub read-room : 0 < room
     read-room = read-further .room-left
@@ -321,7 +316,7 @@ module _ (room last : ℕ) (s : List ℕ) (step : ReadStep) (is-step : step ≡ 
     pub read-long : 24 ≤ length s
     read-long = read-further .long
 
-    pub read-rest : room ≤ 16 → packedCheck (readAnswer (room - 1)) (readList (room - 1) p (drop 24 s)) ≡ packedCheck (readAnswer room) (readList room last s)
+    pub read-rest : room ≤ 16 → packedCheck (readAnswer (room - 1)) (readList (room - 1) (drop 24 s)) ≡ packedCheck (readAnswer room) (readList room s)
     read-rest most =
         let f = read-further in
         rw (f .is) (packed-prepend _ _ (f .first) _ (λ l. omega arith))

@@ -1,6 +1,6 @@
--- The three lists of a header, read (document 01, "The header on the wire" and "The numbers and their order").
+-- The three lists of a header, read (document 01, "The header on the wire" and "The numbers and their order"; document 02, order 3).
 use Prim.Native.Nat.{ℕ, zero, suc, _-_, _*_, _%_}
-use mathlib.Core.Bool.{cond}
+use mathlib.Core.Bool.{Bool, true, cond, _&&_}
 use mathlib.Core.List.{List, [], _∷_}
 use mathlib.Core.Option.{Option, none, some}
 use lib.ListN.{length, drop}
@@ -10,7 +10,6 @@ use Rattle.wire.specs.declared.Word.{Word}
 use Rattle.wire.specs.declared.Word.the-variants as word
 use Rattle.wire.specs.declared.Segment.{Segment}
 use Rattle.wire.specs.declared.ReadSegment.{ReadSegment}
-use Rattle.answers.specs.Answers.{check}
 use Rattle.chunk_lists.specs.Parsed.{Parsed, refused, done, andThen, require, prepend, each}
 use Rattle.chunk_lists.specs.declared.Marker.{Marker}
 use Rattle.chunk_lists.specs.declared.Marker.the-variants as marker
@@ -50,25 +49,23 @@ afterMarker marker.Entry t absent present = present t
 abbrev pub optional : {A : Type 0} → A → (List ℕ → Parsed A) → List ℕ → Parsed A
 optional absent present s = afterMarker (markerOf s) (drop 4 s) absent present
 
--- "An entry is position, handle, length, offset: 20 bytes." "its 20 bytes (5), then 9, then 8", behind an entry at the position `last` (0 where there is none).
-unfoldable pub readEntry : ℕ → List ℕ → Parsed ReadSegment
-readEntry last s =
-    require (leb 20 (length s)) 5
-    (require (eqb (wordAt s 0 % 4) 0) 9
-    (require (leb last (wordAt s 0)) 8
-    (done (readSegmentAt s 0) (drop 20 s))))
+-- "a read position that is no multiple of 4" (9)
+abbrev pub isAligned : ℕ → Bool
+isAligned position = eqb (position % 4) 0
 
--- "For a read entry: marker (5, 6), limit (7), its 20 bytes (5), then 9, then 8.": a list of at most `room` entries.
-unfoldable pub readList : ℕ → ℕ → List ℕ → Parsed (List ReadSegment)
-readList zero last s = optional [] (λ t. refused 7) s
-readList (suc room) last s =
-    optional [] (λ t. andThen (readEntry last t) (λ x u. prepend x (readList room (x .position) u))) s
+-- "An entry is position, handle, length, offset: 20 bytes." "its 20 bytes (5), then 9", as mended by order 3: "8 is never given again".
+unfoldable pub readEntry : List ℕ → Parsed ReadSegment
+readEntry s = require (leb 20 (length s)) 5 (require (isAligned (wordAt s 0)) 9 (done (readSegmentAt s 0) (drop 20 s)))
 
--- The same rule of entries that are at hand: "entry by entry 9 and 8", and then what `next` says.
-unfoldable pub positionsNumber : ℕ → List ReadSegment → ℕ → ℕ
-positionsNumber last [] next = next
-positionsNumber last (x ∷ xs) next =
-    check (eqb (x .position % 4) 0) 9 (check (leb last (x .position)) 8 (positionsNumber (x .position) xs next))
+-- "For a read entry: marker (5, 6), limit (7), its 20 bytes (5), then 9", so mended: a list of at most `room` entries. "The reader and writer keep wire order." (order 3)
+unfoldable pub readList : ℕ → List ℕ → Parsed (List ReadSegment)
+readList zero s = optional [] (λ t. refused 7) s
+readList (suc room) s = optional [] (λ t. andThen (readEntry t) (λ x u. prepend x (readList room u))) s
+
+-- "positions .. pass .. 9": those of a list that is at hand.
+unfoldable pub allAligned : List ReadSegment → Bool
+allAligned [] = true
+allAligned (x ∷ xs) = isAligned (x .position) && allAligned xs
 
 -- "that many segments of handle, length, offset: 16 bytes each", 5 where they are not there.
 unfoldable pub segments : ℕ → List ℕ → Parsed (List Segment)

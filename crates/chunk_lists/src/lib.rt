@@ -5,10 +5,10 @@ use wire::Segment;
 use wire::Word;
 ghost use mathlib.Core.Path.{_≡_};
 ghost use Prim.Native.Nat.{_+_, _*_, _-_, _/_, _≤_, _<_};
-ghost use lib.ListN.{length, take, drop, getD};
+ghost use lib.ListN.{length, drop, getD};
 ghost use Rattle.wire.specs.Wire.{segmentAt, stored, joined, zeroReadSegment};
 ghost use Rattle.chunk_lists.specs.Parsed.{each};
-ghost use Rattle.chunk_lists.specs.Lists.{markerOf, readEntry, readList, positionsNumber, counted, writeList};
+ghost use Rattle.chunk_lists.specs.Lists.{markerOf, readEntry, readList, counted, writeList};
 ghost use Rattle.chunk_lists.specs.Internal.Steps.{isEnd, entryStep, readStep, countStep, chunkStep, listCheck, packedCheck, markedSegmentAt, chunksAt, ChunksFit, withWrites};
 ghost use Rattle.chunk_lists.specs.Words.{readsIn, readsWords, segmentsIn, segmentsWords};
 
@@ -27,7 +27,7 @@ pub const MARKED_ENTRY_BYTES: usize = wire::WORD_BYTES + wire::READ_SEGMENT_BYTE
 pub const CHUNK_HEAD_BYTES: usize = wire::WORD_BYTES + wire::WORD_BYTES;
 
 // "a read position that is no multiple of 4": what it has to be a multiple of
-const POSITION_UNIT: u32 = 4;
+pub const POSITION_UNIT: u32 = 4;
 
 // Above the answers of a walk over a list: a refusal, with its number added.
 const REFUSED: usize = 256;
@@ -59,10 +59,10 @@ pub enum Marker {
     Refused(u32),
 }
 
-// What stands at the front of a read list; of an entry, its position.
+// What stands at the front of a read list.
 pub enum ReadStep {
     End,
-    Entry(u32),
+    Entry,
     Refused(u32),
 }
 
@@ -115,9 +115,9 @@ fn rounded(position: u32) -> u64
     (position as u64 + (unit - 1)) / unit * unit
 }
 
-// The read entry at the front of s, behind an entry at the position `last`.
-fn check_read_entry(s: &[u8], last: u32) -> ReadStep
-    ensures { λ r. ⌜ r ≡ entryStep (readEntry last (now (s .entry))) ⌝ }
+// The read entry at the front of s.
+fn check_read_entry(s: &[u8]) -> ReadStep
+    ensures { λ r. ⌜ r ≡ entryStep (readEntry (now (s .entry))) ⌝ }
 {
     if s.len() < wire::READ_SEGMENT_BYTES {
         return ReadStep::Refused(answers::ENDS_INSIDE_FIELD);
@@ -129,15 +129,12 @@ fn check_read_entry(s: &[u8], last: u32) -> ReadStep
     if up != p {
         return ReadStep::Refused(answers::POSITION_UNALIGNED);
     }
-    if position < last {
-        return ReadStep::Refused(answers::POSITION_FALLS);
-    }
-    ReadStep::Entry(position)
+    ReadStep::Entry
 }
 
 // The marker at the front of s, and the read entry behind a marker 1.
-fn check_read_step(s: &[u8], room: usize, last: u32) -> ReadStep
-    ensures { λ r. ⌜ r ≡ readStep room last (now (s .entry)) ⌝ }
+fn check_read_step(s: &[u8], room: usize) -> ReadStep
+    ensures { λ r. ⌜ r ≡ readStep room (now (s .entry)) ⌝ }
 {
     let marker = check_marker(s);
     match marker {
@@ -147,38 +144,34 @@ fn check_read_step(s: &[u8], room: usize, last: u32) -> ReadStep
             if room == 0 {
                 return ReadStep::Refused(answers::OVER_LIMIT);
             }
-            check_read_entry(&s[wire::WORD_BYTES..], last)
+            check_read_entry(&s[wire::WORD_BYTES..])
         }
     }
 }
 
-// Checks the read list at the front of s, of at most `room` entries, behind an entry at the position `last`. The answer is
-// one number, how many entries there are or REFUSED and the number: an enum would be copied at each level.
-fn check_read_entries(s: &[u8], room: usize, last: u32) -> usize
+// Checks the read list at the front of s, of at most `room` entries. The answer is one number, how many entries there are or
+// REFUSED and the number: an enum would be copied at each level.
+fn check_read_entries(s: &[u8], room: usize) -> usize
     requires { ⌜ room ≤ 16 ⌝ }
-    ensures { λ r. ⌜ r ≡ packedCheck (λ l. 16 - room + length l) (readList room last (now (s .entry))) ⌝ }
+    ensures { λ r. ⌜ r ≡ packedCheck (λ l. 16 - room + length l) (readList room (now (s .entry))) ⌝ }
 {
-    let step = check_read_step(s, room, last);
+    let step = check_read_step(s, room);
     match step {
         ReadStep::End => MAX_READ_SEGMENTS - room,
         ReadStep::Refused(number) => REFUSED + number as usize,
-        ReadStep::Entry(position) => check_read_entries(
-            &s[MARKED_ENTRY_BYTES..],
-            room - 1,
-            position,
-        ),
+        ReadStep::Entry => check_read_entries(&s[MARKED_ENTRY_BYTES..], room - 1),
     }
 }
 
 // Checks the read list at the front of s.
 pub fn check_read_list(s: &[u8]) -> ListCheck
-    ensures { λ r. ⌜ r ≡ listCheck 0 (readList 16 0 (now (s .entry))) ⌝ }
+    ensures { λ r. ⌜ r ≡ listCheck 0 (readList 16 (now (s .entry))) ⌝ }
 {
     // The commonest list is empty: known without a call.
     if is_end(check_marker(s)) {
         return ListCheck::Done(0, s.len() - wire::WORD_BYTES);
     }
-    let answer = check_read_entries(s, MAX_READ_SEGMENTS, 0);
+    let answer = check_read_entries(s, MAX_READ_SEGMENTS);
     if REFUSED <= answer {
         return ListCheck::Refused((answer - REFUSED) as u32);
     }
@@ -304,26 +297,6 @@ pub fn segments_in(words: &[u32], from: usize) -> [Segment; 16]
         to[k] = wire::segment_in(words, from + k * wire::SEGMENT_WORDS);
     }
     to
-}
-
-// The number of the first read entry at fault, or 0.
-pub fn check_positions(words: &[u32], n: usize) -> u32
-    requires { ⌜ (n ≤ 16) × (96 ≤ length (now words)) ⌝ }
-    ensures { λ r. ⌜ r ≡ positionsNumber 0 (take n (readsIn (now (words .entry)))) 0 ⌝ }
-{
-    let mut last: u32 = 0;
-    for k in 0..n {
-        let x = read_segment_of(words, k);
-        let p = x.position;
-        if p % POSITION_UNIT != 0 {
-            return answers::POSITION_UNALIGNED;
-        }
-        if p < last {
-            return answers::POSITION_FALLS;
-        }
-        last = p;
-    }
-    0
 }
 
 // Decodes the n entries of a read list that was checked into the words, from the first on.

@@ -10,7 +10,7 @@ use borrow.Author.Tests.{le-leb}
 use lib.ListN.{length, take}
 use lib.Seq.{take-append-seam}
 use Rattle.wire.specs.Wire.{wordAt, joined, wordBytes, words}
-use Rattle.chunk_lists.specs.Lists.{positionsNumber}
+use Rattle.chunk_lists.specs.Lists.{allAligned}
 use Rattle.chunk_lists.specs.Parsed.{done}
 use Rattle.header.specs.Content.{headerOf}
 use Rattle.reader.specs.Frame.{readFrame, readAnswer, payloadOf, errorContent}
@@ -52,14 +52,14 @@ granted-fits asked limit fits =
 
 -- An ERROR header can be written.
 error-allowed : (e : ErrorKind) (xid credit : ℕ) → ErrorFits e → Word32 xid → Word32 credit → Allowed (errorContent e xid credit)
-unfolding All positionsNumber total
+unfolding All allAligned total
 error-allowed e xid credit f x c = record {
   kind = f;
   xid = x;
   credit = c;
   reads = tt;
   reads-limit = omega arith;
-  rising = refl;
+  aligned = refl;
   writes = tt;
   chunks-limit = omega arith;
   writes-limit = omega arith;

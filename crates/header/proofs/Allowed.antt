@@ -1,11 +1,12 @@
 -- What holds of a content that was read, and of one that can be written.
 -- Assumes nothing.
 use mathlib.Core.Path.{_≡_}
+use mathlib.Core.Bool.{true}
 use mathlib.Core.List.{List, [], map}
 use mathlib.Core.Option.{Option, none, some}
 use Prim.Native.Nat.{ℕ, _≤_}
 use lib.ListN.{length}
-use Rattle.chunk_lists.specs.Lists.{positionsNumber}
+use Rattle.chunk_lists.specs.Lists.{allAligned}
 use Rattle.header.specs.Content.{Content}
 use Rattle.header.specs.Limits.{total}
 use Rattle.wire.specs.Fits.{Word32, All, SegmentFits, ReadSegmentFits}
@@ -25,14 +26,14 @@ BareIfError Msg c = Unit {0}
 BareIfError Nomsg c = Unit {0}
 BareIfError (Error e) c = (c .reads ≡ []) × (c .writes ≡ []) × (c .reply ≡ none)
 
--- A content within the limits, its positions in order, its numbers of their sizes, without lists where it is an error.
+-- A content within the limits, its positions multiples of 4, its numbers of their sizes, without lists where it is an error.
 pub record Allowed (c : Content) : Type 0 where
   pub kind : KindFits (c .kind)
   pub xid : Word32 (c .xid)
   pub credit : Word32 (c .credit)
   pub reads : All ReadSegmentFits (c .reads)
   pub reads-limit : length (c .reads) ≤ 16
-  pub rising : positionsNumber 0 (c .reads) 0 ≡ 0
+  pub aligned : allAligned (c .reads) ≡ true
   pub writes : All (All SegmentFits) (c .writes)
   pub chunks-limit : length (c .writes) ≤ 4
   pub writes-limit : total (map length (c .writes)) ≤ 16

@@ -12,8 +12,8 @@ use lib.Dec.{eqb}
 use borrow.Author.Tests.{eqb-true, eqb-false, eq-eqb, ne-eqb, leb-true}
 use Rattle.wire.specs.Wire.{zeroReadSegment}
 use Rattle.wire.specs.declared.ReadSegment.{ReadSegment}
-use Rattle.chunk_lists.specs.Lists.{positionsNumber}
-use Rattle.chunk_lists.proofs.Positions.{rises}
+use Rattle.read_order.specs.ReadOrder.{neverFalls, isSorted}
+use Rattle.read_order.proofs.Rising.{rises}
 use Rattle.layout.specs.Layout.{run, joinChunk, otherChunks}
 use Rattle.layout.specs.Internal.Walks.{joinedRun, endedLength, Near}
 use Rattle.layout.proofs.Remaining.{remaining, Above}
@@ -86,7 +86,7 @@ ended-within-hand w x = by (eqb (w .at) (x .position))
     by false = omega arith
 
 -- Chunks of segments that never fall below a position stand at or behind it.
-pub rising-above : (q last : ℕ) (xs : List ReadSegment) → positionsNumber last xs 0 ≡ 0 → q < last → Above q (otherChunks xs)
+pub rising-above : (q last : ℕ) (xs : List ReadSegment) → neverFalls last xs ≡ true → q < last → Above q (otherChunks xs)
 unfolding otherChunks Above
 rising-above q last [] e h = tt
 rising-above q last (x ∷ xs) e h =
@@ -96,10 +96,10 @@ rising-above q last (x ∷ xs) e h =
 
 -- The chunk at hand w, and the segments xs still to come.
 pub record Walk (w : Run) (xs : List ReadSegment) : Type 0 where
-  pub rising : positionsNumber (w .at) xs 0 ≡ 0
+  pub rising : neverFalls (w .at) xs ≡ true
   pub none : w .at ≡ 0 → w .length ≡ 0
 
-pub walk-start : (xs : List ReadSegment) → positionsNumber 0 xs 0 ≡ 0 → Walk (run 0 0) xs
+pub walk-start : (xs : List ReadSegment) → neverFalls 0 xs ≡ true → Walk (run 0 0) xs
 walk-start xs e = record { rising = e; none = λ z. refl }
 
 -- The chunks from the one at hand on.
@@ -144,7 +144,7 @@ headed-join p l (c ∷ cs) h a = by (order p (c .at))
     by (same b) = record { size = l + c .length; rest = cs; is = join-same p l c cs b ∙ ap (λ (q : ℕ). run q (l + c .length) ∷ cs) (sym b) }
     by (more b) = absurd (let above = a .0 in omega arith)
 
-pub headed : (w : Run) (xs : List ReadSegment) → (w .at ≡ 0 → ⊥) → positionsNumber (w .at) xs 0 ≡ 0 → Headed (w .at) (remaining w xs)
+pub headed : (w : Run) (xs : List ReadSegment) → (w .at ≡ 0 → ⊥) → neverFalls (w .at) xs ≡ true → Headed (w .at) (remaining w xs)
 headed w xs n e =
     rw (some-at-hand w xs n) (headed-join (w .at) (w .length) (otherChunks xs) (omega arith) (rising-above (w .at - 1) (w .at) xs e (omega arith)))
 
@@ -233,7 +233,7 @@ pub record Along (to-come : List ReadSegment) (i earlier : ℕ) (w : Run) : Type
   pub walk : Walk w to-come
   pub low : Low i earlier w
 
-pub along-start : (reads : List ReadSegment) → positionsNumber 0 reads 0 ≡ 0 → Along reads 0 0 (run 0 0)
+pub along-start : (reads : List ReadSegment) → isSorted reads ≡ true → Along reads 0 0 (run 0 0)
 along-start reads e = record { walk = walk-start reads e; low = record { sum = omega arith; at = omega arith } }
 
 -- What is known at a segment x, with xs behind it, and behind the last.

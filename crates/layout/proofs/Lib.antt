@@ -10,3 +10,5 @@ pub mod Apart
 pub mod Once
 pub mod Passed
 pub mod ReadsWalk
+pub mod Unseen
+pub mod ByChunk

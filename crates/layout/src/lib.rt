@@ -8,7 +8,7 @@ ghost use mathlib.Core.List.{List};
 ghost use Prim.Native.Nat.{_+_, _-_, _≤_, _<_};
 ghost use lib.ListN.{length, take};
 ghost use Rattle.wire.specs.declared.ReadSegment.{ReadSegment};
-ghost use Rattle.chunk_lists.specs.Lists.{positionsNumber};
+ghost use Rattle.read_order.specs.ReadOrder.{isSorted};
 ghost use Rattle.chunk_lists.specs.Words.{readsIn};
 ghost use Rattle.layout.specs.Layout.{zeroLength, baseLength, otherChunks, roundedUp, kindFits};
 ghost use Rattle.layout.specs.Internal.Walks.{sumsWith, sumsOf, endedLength, joinedRun, Near, readsCheck, chunkCheck, layoutCheck, layoutNumber};
@@ -45,7 +45,7 @@ pub struct ReadsFound {
     pub chunks: usize,
 }
 
-// The positions of a read list are in order and its chunks stand, or not.
+// A read list is sorted, its positions are multiples of 4 and its chunks stand; or not.
 pub enum ReadsCheck {
     Fine(ReadsFound),
     Faulty,
@@ -156,7 +156,7 @@ pub fn joined(w: Run, x: ReadSegment) -> Run
 
 // Whether each chunk stands behind the former one and within the base.
 fn check_chunks(words: &[u32], n: usize, base: usize) -> ChunkCheck
-    requires { ⌜ (n ≤ 16) × (positionsNumber 0 (take n (readsIn (now words))) 0 ≡ 0) × (96 ≤ length (now words)) ⌝ }
+    requires { ⌜ (n ≤ 16) × (isSorted (take n (readsIn (now words))) ≡ true) × (96 ≤ length (now words)) ⌝ }
     ensures { λ r. ⌜ r ≡ chunkCheck base (otherChunks (take n (readsIn (now (words .entry))))) ⌝ }
 {
     let mut w = Run { at: 0, length: 0 };
@@ -208,7 +208,7 @@ pub fn layout_refusal(m: LayoutCheck) -> u32
     }
 }
 
-// Checks the positions of a read list and its chunks over a base, and sums its segments up, in one walk.
+// Checks the positions of a read list, its order and its chunks over a base, and sums its segments up, in one walk.
 pub fn check_reads(words: &[u32], n: usize, base: usize) -> ReadsCheck
     requires { ⌜ (n ≤ 16) × (96 ≤ length (now words)) ⌝ }
     ensures { λ r. ⌜ r ≡ readsCheck base (take n (readsIn (now (words .entry)))) ⌝ }
@@ -226,7 +226,7 @@ pub fn check_reads(words: &[u32], n: usize, base: usize) -> ReadsCheck
         if position % UNIT_BYTES != 0 {
             return ReadsCheck::Faulty;
         }
-        // A position below the one before it, too, lies before the end of the chunk there.
+        // A position below the one before it, too, lies before the end of the chunk there: this tells a list that is not sorted.
         let size = rounded(ended_length(w, x));
         if w.at + size > position {
             return ReadsCheck::Faulty;
@@ -286,7 +286,7 @@ pub fn check_layout(
     n: usize,
     room: usize,
 ) -> LayoutCheck
-    requires { ⌜ (n ≤ 16) × (positionsNumber 0 (take n (readsIn (now words))) 0 ≡ 0) × (96 ≤ length (now words)) ⌝ }
+    requires { ⌜ (n ≤ 16) × (isSorted (take n (readsIn (now words))) ≡ true) × (96 ≤ length (now words)) ⌝ }
     ensures { λ r. ⌜ r ≡ layoutCheck kind base «any_zero» (otherChunks (take n (readsIn (now (words .entry))))) room ⌝ }
 {
     let stood = check_chunks(words, n, base);

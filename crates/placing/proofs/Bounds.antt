@@ -12,8 +12,8 @@ use lib.Dec.{eqb}
 use borrow.Author.Tests.{eq-eqb, ne-eqb, eqb-true, eqb-false, leb-true}
 use Rattle.wire.specs.Fits.{All}
 use Rattle.wire.specs.declared.ReadSegment.{ReadSegment}
-use Rattle.chunk_lists.specs.Lists.{positionsNumber}
-use Rattle.chunk_lists.proofs.Positions.{rises}
+use Rattle.read_order.specs.ReadOrder.{neverFalls}
+use Rattle.read_order.proofs.Rising.{rises}
 use Rattle.layout.specs.Places.{from}
 use Rattle.layout.specs.Layout.{anyAtZero, zeroLength, joinChunk, otherChunks, messageLength, places, basePlaces}
 use Rattle.layout.specs.Internal.Walks.{readLength}
@@ -40,7 +40,7 @@ record Zeros (reads : List ReadSegment) : Type 0 where
   pub zero : All AtZero zs
   pub other : All Elsewhere os
 
-all-elsewhere : (last : ℕ) (xs : List ReadSegment) → 0 < last → positionsNumber last xs 0 ≡ 0 → All Elsewhere xs
+all-elsewhere : (last : ℕ) (xs : List ReadSegment) → 0 < last → neverFalls last xs ≡ true → All Elsewhere xs
 unfolding All
 all-elsewhere last [] h e = tt
 all-elsewhere last (x ∷ xs) h e =
@@ -48,7 +48,7 @@ all-elsewhere last (x ∷ xs) h e =
     let above = leb-true last (x .position) (up .above) in
     (omega arith, all-elsewhere (x .position) xs (omega arith) (up .onward))
 
-zeros : (last : ℕ) (xs : List ReadSegment) → positionsNumber last xs 0 ≡ 0 → Zeros xs
+zeros : (last : ℕ) (xs : List ReadSegment) → neverFalls last xs ≡ true → Zeros xs
 unfolding All
 zeros last [] e = record { zs = []; os = []; is = refl; zero = tt; other = tt }
 zeros last (x ∷ xs) e = by (eqb (x .position) 0) refl (zeros (x .position) xs (rises last x xs e .onward))

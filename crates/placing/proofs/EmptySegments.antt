@@ -12,8 +12,8 @@ use borrow.Author.Tests.{eq-eqb, ne-eqb, eqb-true, eqb-false, leb-true, le-leb}
 use Rattle.answers.proofs.Checks.{both-hold}
 use Rattle.wire.specs.Wire.{zeroReadSegment}
 use Rattle.wire.specs.declared.ReadSegment.{ReadSegment}
-use Rattle.chunk_lists.specs.Lists.{positionsNumber}
-use Rattle.chunk_lists.proofs.Positions.{rises}
+use Rattle.read_order.specs.ReadOrder.{neverFalls, isSorted}
+use Rattle.read_order.proofs.Rising.{rises, above-last, rising-from}
 use Rattle.layout.specs.Places.{from}
 use Rattle.layout.specs.Layout.{run, joinChunk, otherChunks, roundedUp, roundedTotal, stands, messageLength, places, gaps, basePlaces}
 use Rattle.layout.specs.declared.Run.{Run}
@@ -225,32 +225,24 @@ stands-solid base end earlier (c ∷ cs) s =
         stands-less base end (c .at) earlier (solid cs) up (rw (none, add-zero (c .at), add-zero earlier) at ih)
     by false e up near ih = rw (le-leb end (c .at) up, le-leb (c .at - earlier) base near) ih
 
-rises-less : (low last : ℕ) (xs : List ReadSegment) → low ≤ last → positionsNumber last xs 0 ≡ 0 → positionsNumber low xs 0 ≡ 0
-unfolding positionsNumber
-rises-less low last [] h e = refl
-rises-less low last (x ∷ xs) h e =
-    let up = rises last x xs e in
-    let above = leb-true last (x .position) (up .above) in
-    rw (up .aligned, le-leb low (x .position) (omega arith)) (up .onward)
-
-rises-some : (last : ℕ) (xs : List ReadSegment) → positionsNumber last xs 0 ≡ 0 → positionsNumber last (nonEmpty xs) 0 ≡ 0
-unfolding positionsNumber nonEmpty
+rises-some : (last : ℕ) (xs : List ReadSegment) → neverFalls last xs ≡ true → neverFalls last (nonEmpty xs) ≡ true
+unfolding neverFalls nonEmpty
 rises-some last [] e = refl
 rises-some last (x ∷ xs) e = by (eqb (x .target .length) 0) (rises-some (x .position) xs (rises last x xs e .onward))
   where
-    by : (b : Bool) → positionsNumber (x .position) (nonEmpty xs) 0 ≡ 0 → positionsNumber last (cond b (nonEmpty xs) (x ∷ nonEmpty xs)) 0 ≡ 0
-    by true ih = rises-less last (x .position) (nonEmpty xs) (leb-true last (x .position) (rises last x xs e .above)) ih
-    by false ih = rw (rises last x xs e .aligned, rises last x xs e .above) ih
+    by : (b : Bool) → neverFalls (x .position) (nonEmpty xs) ≡ true → neverFalls last (cond b (nonEmpty xs) (x ∷ nonEmpty xs)) ≡ true
+    by true ih = rising-from last (x .position) (nonEmpty xs) (above-last last x xs e) ih
+    by false ih = rw (rises last x xs e .above) ih
 
 -- What a walk that passes over empty segments needs.
 pub record PassedOver (base : ℕ) (reads : List ReadSegment) : Type 0 where
-  pub rise : positionsNumber 0 (nonEmpty reads) 0 ≡ 0
+  pub rise : isSorted (nonEmpty reads) ≡ true
   pub stand : stands base 0 0 (otherChunks (nonEmpty reads)) ≡ true
   pub solids : Solid (otherChunks (nonEmpty reads))
   pub same-message : messageLength base (otherChunks (nonEmpty reads)) ≡ messageLength base (otherChunks reads)
   pub same-places : basePlaces base (otherChunks reads) ≡ basePlaces base (otherChunks (nonEmpty reads))
 
-pub passed-over : (base : ℕ) (reads : List ReadSegment) → positionsNumber 0 reads 0 ≡ 0 → stands base 0 0 (otherChunks reads) ≡ true → PassedOver base reads
+pub passed-over : (base : ℕ) (reads : List ReadSegment) → isSorted reads ≡ true → stands base 0 0 (otherChunks reads) ≡ true → PassedOver base reads
 passed-over base reads r s =
     record {
       rise = rises-some 0 reads r;

@@ -10,8 +10,8 @@ use lib.Seq.{take-length, take-add, take-at, drop-at, drop-drop, length-take-le}
 use lib.Dec.{leb, ltb, eqb}
 use borrow.Author.Tests.{leb-true, leb-false, ltb-true, ltb-false, eqb-true, eqb-false, eq-eqb, ne-eqb}
 use Rattle.wire.specs.declared.ReadSegment.{ReadSegment}
-use Rattle.chunk_lists.specs.Lists.{positionsNumber}
-use Rattle.chunk_lists.proofs.Positions.{rises}
+use Rattle.read_order.specs.ReadOrder.{neverFalls, isSorted}
+use Rattle.read_order.proofs.Rising.{rises}
 use Rattle.layout.specs.Places.{scatter}
 use Rattle.layout.specs.Layout.{run, anyAtZero, otherChunks, roundedTotal, stands, messageLength}
 use Rattle.layout.specs.Internal.Walks.{totalLength, readLength}
@@ -104,9 +104,9 @@ module _ (base : ℕ) (reads before : List ReadSegment) (i : ℕ) (x : ReadSegme
 pub record Hand (reads : List ReadSegment) (i : ℕ) (w : Run) : Type 0 where
   pub size : w .length ≡ positionLength (w .at) (take i reads)
   pub above : (q : ℕ) → w .at < q → positionLength q (take i reads) ≡ 0
-  pub rising : positionsNumber (w .at) (drop i reads) 0 ≡ 0
+  pub rising : neverFalls (w .at) (drop i reads) ≡ true
 
-pub hand-start : (reads : List ReadSegment) → positionsNumber 0 reads 0 ≡ 0 → Hand reads 0 (run 0 0)
+pub hand-start : (reads : List ReadSegment) → isSorted reads ≡ true → Hand reads 0 (run 0 0)
 unfolding positionLength
 hand-start reads e = record { size = refl; above = λ q h. refl; rising = e }
 

@@ -12,8 +12,8 @@ use lib.Dec.{eqb}
 use borrow.Author.Tests.{leb-true, eqb-true, eqb-false, eq-eqb, ne-eqb}
 use Rattle.wire.specs.Wire.{joined, stored}
 use Rattle.wire.specs.declared.ReadSegment.{ReadSegment}
-use Rattle.chunk_lists.specs.Lists.{positionsNumber}
-use Rattle.chunk_lists.proofs.Positions.{rises}
+use Rattle.read_order.specs.ReadOrder.{neverFalls}
+use Rattle.read_order.proofs.Rising.{rises}
 use Rattle.layout.specs.Places.{from, scatter}
 use Rattle.header.specs.declared.Kind.{Kind}
 use Rattle.header.specs.declared.Kind.the-variants.{Msg, Nomsg, Error}
@@ -104,10 +104,10 @@ part-of q n l cs f = rw (f .is, add-assoc) (part-run q n l (f .extra) (f .rest))
 front-of : (q l : ℕ) (cs : List Run) → Fronted q l cs → take l (places cs) ≡ from (q + 0) l
 front-of q l cs f = rw (f .is, add-zero, from-add q l (f .extra), append-assoc) (take-at (from q l) _ l (length-from q l))
 
-first-above : (q : ℕ) (x : ReadSegment) (xs : List ReadSegment) → positionsNumber q (x ∷ xs) 0 ≡ 0 → q ≤ x .position
+first-above : (q : ℕ) (x : ReadSegment) (xs : List ReadSegment) → neverFalls q (x ∷ xs) ≡ true → q ≤ x .position
 first-above q x xs e = leb-true q (x .position) (rises q x xs e .above)
 
-any-above : (q : ℕ) (ys : List ReadSegment) (x : ReadSegment) (behind : List ReadSegment) → positionsNumber q (ys ++ (x ∷ behind)) 0 ≡ 0 → q ≤ x .position
+any-above : (q : ℕ) (ys : List ReadSegment) (x : ReadSegment) (behind : List ReadSegment) → neverFalls q (ys ++ (x ∷ behind)) ≡ true → q ≤ x .position
 any-above q [] x behind e = first-above q x behind e
 any-above q (y ∷ ys) x behind e =
     let up = first-above q y (ys ++ (x ∷ behind)) e in
@@ -128,7 +128,7 @@ goes-on : (q n : ℕ) (y : ReadSegment) (zs : List ReadSegment) → 0 < q → q 
 goes-on q n y zs h e =
     rw (others-first y zs (λ z. (let none : q ≡ 0 = e ∙ z in omega arith)), ← e) (join-join q n (y .target .length) (otherChunks zs))
 
-stands-behind : (q n k : ℕ) (y : ReadSegment) (zs : List ReadSegment) → 0 < q → q < y .position → positionsNumber q (y ∷ zs) 0 ≡ 0 →
+stands-behind : (q n k : ℕ) (y : ReadSegment) (zs : List ReadSegment) → 0 < q → q < y .position → neverFalls q (y ∷ zs) ≡ true →
     drop (n + k) (places (joinChunk q n (otherChunks (y ∷ zs)))) ≡ drop k (places (joinChunk (y .position) (y .target .length) (otherChunks zs)))
 unfolding places
 stands-behind q n k y zs h b e =
@@ -161,7 +161,7 @@ unfolding positionLength hand
 length-first p y ys = refl
 
 module _ (x : ReadSegment) (behind : List ReadSegment) where
-  own-hand : (before : List ReadSegment) (q n : ℕ) → 0 < q → positionsNumber q (before ++ (x ∷ behind)) 0 ≡ 0 →
+  own-hand : (before : List ReadSegment) (q n : ℕ) → 0 < q → neverFalls q (before ++ (x ∷ behind)) ≡ true →
       take (x .target .length) (drop (n + totalLength (otherChunks before)) (places (joinChunk q n (otherChunks (before ++ (x ∷ behind))))))
       ≡ from (x .position + (hand (x .position) q n + positionLength (x .position) before)) (x .target .length)
   unfolding positionLength totalLength otherChunks
@@ -185,7 +185,7 @@ module _ (x : ReadSegment) (behind : List ReadSegment) where
       rest : List ReadSegment
       rest = ys ++ (x ∷ behind)
 
-      onward : positionsNumber (y .position) rest 0 ≡ 0
+      onward : neverFalls (y .position) rest ≡ true
       onward = rises q y rest e .onward
 
       up : q ≤ y .position
@@ -195,7 +195,7 @@ module _ (x : ReadSegment) (behind : List ReadSegment) where
       total = let u = up in total-first y ys (omega arith)
 
       by : Order q (y .position) →
-          ((p m : ℕ) → 0 < p → positionsNumber p rest 0 ≡ 0 → take (x .target .length) (drop (m + totalLength (otherChunks ys)) (places (joinChunk p m (otherChunks rest)))) ≡ from (x .position + (hand (x .position) p m + positionLength (x .position) ys)) (x .target .length)) →
+          ((p m : ℕ) → 0 < p → neverFalls p rest ≡ true → take (x .target .length) (drop (m + totalLength (otherChunks ys)) (places (joinChunk p m (otherChunks rest)))) ≡ from (x .position + (hand (x .position) p m + positionLength (x .position) ys)) (x .target .length)) →
           take (x .target .length) (drop (n + totalLength (otherChunks (y ∷ ys))) (places (joinChunk q n (otherChunks (y ∷ rest))))) ≡ from (x .position + (hand (x .position) q n + positionLength (x .position) (y ∷ ys))) (x .target .length)
       by (less b) ih =
           let far = any-above (y .position) ys x behind onward in
@@ -208,7 +208,7 @@ module _ (x : ReadSegment) (behind : List ReadSegment) where
       by (more b) ih = absurd (let u = up in omega arith)
 
   -- The same from the front of the list: segments at 0 add nothing.
-  own-front : (before : List ReadSegment) (last : ℕ) → (x .position ≡ 0 → ⊥) → positionsNumber last (before ++ (x ∷ behind)) 0 ≡ 0 →
+  own-front : (before : List ReadSegment) (last : ℕ) → (x .position ≡ 0 → ⊥) → neverFalls last (before ++ (x ∷ behind)) ≡ true →
       take (x .target .length) (drop (totalLength (otherChunks before)) (places (otherChunks (before ++ (x ∷ behind)))))
       ≡ from (x .position + positionLength (x .position) before) (x .target .length)
   unfolding otherChunks totalLength positionLength
@@ -240,7 +240,7 @@ zero-append [] ys = omega arith
 zero-append (x ∷ xs) ys = omega (arith, zero-append xs ys)
 
 -- Behind a segment elsewhere than at 0 none stands at 0; before one at 0 all do.
-none-behind : (last : ℕ) (xs : List ReadSegment) → 0 < last → positionsNumber last xs 0 ≡ 0 → zeroLength xs ≡ 0
+none-behind : (last : ℕ) (xs : List ReadSegment) → 0 < last → neverFalls last xs ≡ true → zeroLength xs ≡ 0
 unfolding zeroLength
 none-behind last [] h e = refl
 none-behind last (x ∷ xs) h e =
@@ -248,7 +248,7 @@ none-behind last (x ∷ xs) h e =
     let above = leb-true last (x .position) (up .above) in
     rw (ne-eqb (x .position) 0 (omega arith)) (omega (arith, none-behind (x .position) xs (omega arith) (up .onward)))
 
-all-before : (last : ℕ) (before : List ReadSegment) (x : ReadSegment) (behind : List ReadSegment) → x .position ≡ 0 → positionsNumber last (before ++ (x ∷ behind)) 0 ≡ 0 → zeroLength before ≡ readLength before
+all-before : (last : ℕ) (before : List ReadSegment) (x : ReadSegment) (behind : List ReadSegment) → x .position ≡ 0 → neverFalls last (before ++ (x ∷ behind)) ≡ true → zeroLength before ≡ readLength before
 unfolding zeroLength readLength
 all-before last [] x behind z e = refl
 all-before last (y ∷ ys) x behind z e =
@@ -256,7 +256,7 @@ all-before last (y ∷ ys) x behind z e =
     let far = any-above (y .position) ys x behind onward in
     rw (eq-eqb (y .position) 0 (omega arith)) (omega (arith, all-before (y .position) ys x behind z onward))
 
-onward-past : (last : ℕ) (before : List ReadSegment) (x : ReadSegment) (behind : List ReadSegment) → positionsNumber last (before ++ (x ∷ behind)) 0 ≡ 0 → positionsNumber (x .position) behind 0 ≡ 0
+onward-past : (last : ℕ) (before : List ReadSegment) (x : ReadSegment) (behind : List ReadSegment) → neverFalls last (before ++ (x ∷ behind)) ≡ true → neverFalls (x .position) behind ≡ true
 onward-past last [] x behind e = rises last x behind e .onward
 onward-past last (y ∷ ys) x behind e = onward-past (y .position) ys x behind (rises last y (ys ++ (x ∷ behind)) e .onward)
 

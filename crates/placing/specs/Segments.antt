@@ -17,7 +17,7 @@ dealt (x ∷ xs) ps = take (x .target .length) ps ∷ dealt xs (drop (x .target 
 abbrev pub segmentPlaces : Kind → ℕ → List ReadSegment → List (List ℕ)
 segmentPlaces kind base reads = dealt reads (pulledPlaces kind base (otherChunks reads))
 
--- "Pulled bytes then come in list order": of which segment each is, from segment i on.
+-- "Pulled bytes then come in list order", as mended by order 3 that of the sorted list: of which segment each is, from segment i on.
 unfoldable pub segmentNumbers : ℕ → List ReadSegment → List ℕ
 segmentNumbers i [] = []
 segmentNumbers i (x ∷ xs) = replicate (x .target .length) i ++ segmentNumbers (suc i) xs

@@ -22,7 +22,7 @@ use Rattle.reader.proofs.FrameParts.{none-of}
 parts-kind : (kind : Kind) (x y : ℕ) (s : List ℕ) (c : Content) (t : List ℕ) → threeParts kind x y s ≡ done c t → c .kind ≡ kind
 unfolding threeParts
 parts-kind kind x y s c t e =
-    let a = both (readList 16 0 s) e in
+    let a = both (readList 16 s) e in
     let b = both (writeList 4 16 (a .behind)) (a .then) in
     let r = both (replyChunk (b .behind)) (b .then) in
     let is : c ≡ record { kind = kind; xid = x; credit = y; reads = a .first; writes = b .first; reply = r .first } = same (r .then) in

@@ -43,16 +43,16 @@ pub record ReadsFound (s : List ℕ) (n left : ℕ) : Type 0 where
   pub found : List ReadSegment
   pub many : length found ≡ n
   pub fits : left ≤ length s
-  pub read : readList 16 0 (drop 16 s) ≡ done found (drop (length s - left) s)
+  pub read : readList 16 (drop 16 s) ≡ done found (drop (length s - left) s)
 
-module _ (s : List ℕ) (r : ListCheck) (long : 16 ≤ length s) (is : r ≡ listCheck 0 (readList 16 0 (take (length s - 16) (drop 16 s)))) where
-  here : r ≡ listCheck 0 (readList 16 0 (drop 16 s))
-  here = is ∙ ap (λ (u : List ℕ). listCheck 0 (readList 16 0 u)) (part-from 16 s)
+module _ (s : List ℕ) (r : ListCheck) (long : 16 ≤ length s) (is : r ≡ listCheck 0 (readList 16 (take (length s - 16) (drop 16 s)))) where
+  here : r ≡ listCheck 0 (readList 16 (drop 16 s))
+  here = is ∙ ap (λ (u : List ℕ). listCheck 0 (readList 16 u)) (part-from 16 s)
 
   pub reads-found : (n left : ℕ) → r ≡ list.Done n left → ReadsFound s n left
   reads-found n left e =
-      let k = checked 0 (readList 16 0 (drop 16 s)) n left (sym e ∙ here) in
-      let a = reads-of 16 0 (drop 16 s) (k .list) (k .behind) (k .read) in
+      let k = checked 0 (readList 16 (drop 16 s)) n left (sym e ∙ here) in
+      let a = reads-of 16 (drop 16 s) (k .list) (k .behind) (k .read) in
       let size : length (k .behind) ≡ length (drop 16 s) - (4 + length (k .list) * 24) = ap length (a .behind) ∙ length-drop _ (drop 16 s) in
       let rest : length (k .behind) ≡ left = k .rest in
       let front = length-drop 16 s in
@@ -65,8 +65,8 @@ module _ (s : List ℕ) (r : ListCheck) (long : 16 ≤ length s) (is : r ≡ lis
         read = k .read ∙ ap (done (k .list)) (a .behind ∙ drop-drop (4 + length (k .list) * 24) 16 s ∙ ap (λ (j : ℕ). drop j s) p);
       }
 
-  pub reads-refused : (n : ℕ) → r ≡ list.Refused n → readList 16 0 (drop 16 s) ≡ refused n
-  reads-refused n e = unchecked 0 (readList 16 0 (drop 16 s)) n (sym e ∙ here)
+  pub reads-refused : (n : ℕ) → r ≡ list.Refused n → readList 16 (drop 16 s) ≡ refused n
+  reads-refused n e = unchecked 0 (readList 16 (drop 16 s)) n (sym e ∙ here)
 
 -- The write list in the last bytes of s.
 pub record WritesFound (s : List ℕ) (from m left : ℕ) : Type 0 where
@@ -129,11 +129,11 @@ module _ (s : List ℕ) (r : ChunkStep) (p : ℕ) (fits : p ≤ length s) (is : 
 
 -- The three parts of a frame, by how far their reading came.
 module _ (kind : Kind) (xid credit : ℕ) (s f : List ℕ) where
-  pub parts-reads : (n : ℕ) → readList 16 0 f ≡ refused n → walk.Refused n ≡ frameCheck (length s) (threeParts kind xid credit f)
+  pub parts-reads : (n : ℕ) → readList 16 f ≡ refused n → walk.Refused n ≡ frameCheck (length s) (threeParts kind xid credit f)
   unfolding threeParts frameCheck
   parts-reads n e = rw e
 
-  module _ (reads : List ReadSegment) (t : List ℕ) (a : readList 16 0 f ≡ done reads t) where
+  module _ (reads : List ReadSegment) (t : List ℕ) (a : readList 16 f ≡ done reads t) where
     pub parts-writes : (n : ℕ) → writeList 4 16 t ≡ refused n → walk.Refused n ≡ frameCheck (length s) (threeParts kind xid credit f)
     unfolding threeParts frameCheck
     parts-writes n e = rw (a, e)

@@ -16,11 +16,11 @@ use Rattle.wire.specs.declared.Word.the-variants as word
 use Rattle.wire.specs.declared.Segment.{Segment}
 use Rattle.wire.specs.declared.ReadSegment.{ReadSegment}
 use Rattle.chunk_lists.specs.Parsed.{Parsed, refused, done, each}
-use Rattle.chunk_lists.specs.Lists.{afterWord, readList, writeList, replyChunk, positionsNumber}
+use Rattle.chunk_lists.specs.Lists.{afterWord, readList, writeList, replyChunk, allAligned}
 use Rattle.chunk_lists.specs.Internal.Steps.{markedSegmentAt, chunksAt, ChunksFit}
 use Rattle.chunk_lists.proofs.ListSteps.{never, required, both, word-room, Chunk, chunk-of, ChunkFront, chunk-front}
 use Rattle.chunk_lists.proofs.ListSteps as laws
-use Rattle.chunk_lists.proofs.ListBytes.{reads-of, writes-of, reply-refused, reply-absent, reply-chunk, ReadsAre, WritesAre, reads-rise}
+use Rattle.chunk_lists.proofs.ListBytes.{reads-of, writes-of, reply-refused, reply-absent, reply-chunk, ReadsAre, WritesAre, reads-aligned}
 use Rattle.header.specs.Content.{Content}
 use Rattle.reader.specs.Frame.{threeParts, errorContent, errorBody, nothingBehind, byProcedure, readFrame, payloadOf}
 use Rattle.reader.specs.Internal.Shape.{replies, shapeOf, frameCheck}
@@ -92,7 +92,7 @@ pub record FrameParts (s : List ℕ) (c : Content) (t : List ℕ) : Type 0 where
   pub reads-few : length (c .reads) ≤ 16
   pub reads-long : 20 + length (c .reads) * 24 ≤ length s
   pub reads-are : c .reads ≡ each 24 markedSegmentAt (length (c .reads)) (drop 16 s)
-  pub reads-rise : positionsNumber 0 (c .reads) 0 ≡ 0
+  pub reads-aligned : allAligned (c .reads) ≡ true
   pub writes-few : length (c .writes) ≤ 4
   pub writes-within : length (joined (λ w. w) (c .writes)) ≤ 16
   pub writes-fit : ChunksFit (length (c .writes)) 16 (drop (20 + length (c .reads) * 24) s)
@@ -102,17 +102,17 @@ pub record FrameParts (s : List ℕ) (c : Content) (t : List ℕ) : Type 0 where
 lists-parts : (kind : Kind) (s : List ℕ) (c : Content) (t : List ℕ) → 16 ≤ length s → threeParts kind (wordAt s 0) (wordAt s 8) (drop 16 s) ≡ done c t → FrameParts s c t
 unfolding threeParts
 lists-parts kind s c t long e =
-    let a = both (readList 16 0 (drop 16 s)) e in
+    let a = both (readList 16 (drop 16 s)) e in
     let b = both (writeList 4 16 (a .behind)) (a .then) in
     let r = both (replyChunk (b .behind)) (b .then) in
-    let x = reads-of 16 0 (drop 16 s) (a .first) (a .behind) (a .is) in
+    let x = reads-of 16 (drop 16 s) (a .first) (a .behind) (a .is) in
     let y = writes-of 4 16 (a .behind) (b .first) (b .behind) (b .is) in
-    go (a .first) (b .first) (r .first) (a .behind) (b .behind) (r .behind) x (reads-rise 16 0 (drop 16 s) (a .first) (a .behind) (a .is)) y (r .is) (r .then)
+    go (a .first) (b .first) (r .first) (a .behind) (b .behind) (r .behind) x (reads-aligned 16 (drop 16 s) (a .first) (a .behind) (a .is)) y (r .is) (r .then)
   where
     go : (reads : List ReadSegment) (writes : List (List Segment)) (reply : Option (List Segment)) (u v w : List ℕ) →
-        ReadsAre 16 (drop 16 s) reads u → positionsNumber 0 reads 0 ≡ 0 → WritesAre 4 16 u writes v → replyChunk v ≡ done reply w →
+        ReadsAre 16 (drop 16 s) reads u → allAligned reads ≡ true → WritesAre 4 16 u writes v → replyChunk v ≡ done reply w →
         done (record { kind = kind; xid = wordAt s 0; credit = wordAt s 8; reads = reads; writes = writes; reply = reply }) w ≡ done c t → FrameParts s c t
-    go reads writes reply u v w x rising y r q =
+    go reads writes reply u v w x aligned y r q =
         let is : c ≡ record { kind = kind; xid = wordAt s 0; credit = wordAt s 8; reads = reads; writes = writes; reply = reply } = cc in
         let rest : t ≡ w = cc in
         let front = length-drop 16 s in
@@ -130,7 +130,7 @@ lists-parts kind s c t long e =
           reads-few = x .few;
           reads-long = enough;
           reads-are = x .is;
-          reads-rise = rising;
+          reads-aligned = aligned;
           writes-few = y .few;
           writes-within = y .within;
           writes-fit = subst (ChunksFit (length writes) 16) here (y .fits);
@@ -140,7 +140,7 @@ lists-parts kind s c t long e =
 
 -- An ERROR header has empty lists, wherever it ends.
 bare-parts : (e : ErrorKind) (s : List ℕ) (t : List ℕ) (end : ℕ) → 20 ≤ length s → end ≤ length s → t ≡ drop end s → FrameParts s (errorContent e (wordAt s 0) (wordAt s 8)) t
-unfolding ChunksFit chunksAt each joined positionsNumber
+unfolding ChunksFit chunksAt each joined allAligned
 bare-parts e s t end long fits rest =
     let size : length t ≡ length s - end = ap length rest ∙ length-drop end s in
     let n : end ≡ length s - length t = omega arith in
@@ -150,7 +150,7 @@ bare-parts e s t end long fits rest =
       reads-few = omega arith;
       reads-long = omega arith;
       reads-are = refl;
-      reads-rise = refl;
+      reads-aligned = refl;
       writes-few = omega arith;
       writes-within = omega arith;
       writes-fit = tt;

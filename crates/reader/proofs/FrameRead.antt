@@ -12,7 +12,7 @@ use lib.Seq.{drop-drop}
 use lib.Dec.{leb, eqb}
 use Rattle.wire.specs.Wire.{wordAt, wordOf, wordBytes}
 use Rattle.chunk_lists.specs.Parsed.{Parsed, refused, done}
-use Rattle.chunk_lists.specs.Lists.{afterWord, readList, positionsNumber, writeList, replyChunk}
+use Rattle.chunk_lists.specs.Lists.{afterWord, readList, allAligned, writeList, replyChunk}
 use Rattle.header.specs.Content.{Content}
 use Rattle.reader.specs.Frame.{threeParts, errorBody, errorContent, nothingBehind, byProcedure, readFrame}
 use Rattle.header.specs.Bytes.{readListBytes, writeListBytes, replyBytes, errorBytes, procedureOf, restBytes, fixedBytes, headerBytes}
@@ -48,7 +48,7 @@ record Listed (kind : Kind) : Type 0 where
 
 -- The three parts, read, make the content.
 parts-read : (kind : Kind) (xid credit : ℕ) (s u v t : List ℕ) (reads : List ReadSegment) (writes : List (List Segment)) (reply : Option (List Segment)) →
-    Listed kind → Word32 xid → Word32 credit → ReadListRead 16 0 s reads u → WriteListRead 4 16 u writes v → ReplyRead v reply t →
+    Listed kind → Word32 xid → Word32 credit → ReadListRead 16 s reads u → WriteListRead 4 16 u writes v → ReplyRead v reply t →
     BodyRead kind xid credit s (record { kind = kind; xid = xid; credit = credit; reads = reads; writes = writes; reply = reply }) t
 parts-read kind xid credit s u v t reads writes reply k x y r w p =
     record {
@@ -62,7 +62,7 @@ parts-read kind xid credit s u v t reads writes reply k x y r w p =
         credit = y;
         reads = r .fits;
         reads-limit = r .limit;
-        rising = r .rising;
+        aligned = r .aligned;
         writes = w .fits;
         chunks-limit = w .limit;
         writes-limit = w .sum;
@@ -76,8 +76,8 @@ three-parts-done : (kind : Kind) (xid credit : ℕ) (s : List ℕ) (c : Content)
     threeParts kind xid credit s ≡ done c t → BodyRead kind xid credit s c t
 unfolding threeParts
 three-parts-done kind xid credit s c t k x y b e =
-    let one = both (readList 16 0 s) e in
-    let reads = read-list-done 16 0 s (one .first) (one .behind) b (one .is) in
+    let one = both (readList 16 s) e in
+    let reads = read-list-done 16 s (one .first) (one .behind) b (one .is) in
     let bu = bytes-behind (readListBytes (one .first)) (one .behind) s (reads .bytes) b in
     let two = both (writeList 4 16 (one .behind)) (one .then) in
     let writes = write-list-done 4 16 (one .behind) (two .first) (two .behind) bu (two .is) in
@@ -105,7 +105,7 @@ record ErrorRead (xid credit : ℕ) (s : List ℕ) (c : Content) (t : List ℕ) 
 -- What an ERROR header goes on with, read, makes its content.
 error-read : (e : ErrorKind) (xid credit : ℕ) (s t : List ℕ) → Word32 xid → Word32 credit → ErrorFits e → errorBytes e ++ t ≡ s →
     ErrorRead xid credit s (errorContent e xid credit) t
-unfolding All positionsNumber total
+unfolding All allAligned total
 error-read e xid credit s t x y f bytes =
     record {
       error = e;
@@ -120,7 +120,7 @@ error-read e xid credit s t x y f bytes =
           credit = y;
           reads = tt;
           reads-limit = omega arith;
-          rising = refl;
+          aligned = refl;
           writes = tt;
           chunks-limit = omega arith;
           writes-limit = omega arith;

@@ -4,16 +4,15 @@ use mathlib.Core.Path.{_≡_, refl, sym, _∙_}
 use mathlib.Core.Bool.{true}
 use mathlib.Core.List.{List, [], _∷_, _++_, append-assoc, map}
 use mathlib.Core.Option.{Option, none, some}
-use Prim.Native.Nat.{ℕ, zero, suc, _+_, _-_, _*_, _%_, _≤_}
+use Prim.Native.Nat.{ℕ, zero, suc, _+_, _-_, _*_, _≤_}
 use native.Mathlib.Omega.{arith}
 use borrow.Author.Tests.{le-leb}
 use lib.ListN.{length, drop}
 use lib.Seq.{drop-drop}
-use lib.Dec.{leb, eqb}
 use Rattle.wire.specs.Wire.{wordAt, segmentAt, wordBytes, segmentBytes, readSegmentBytes, joined}
-use Rattle.chunk_lists.proofs.Positions.{rises}
+use Rattle.chunk_lists.proofs.Positions.{aligned-on}
 use Rattle.chunk_lists.specs.Parsed.{done, each}
-use Rattle.chunk_lists.specs.Lists.{markerOf, readEntry, readList, positionsNumber, segments, counted, writeList, replyChunk}
+use Rattle.chunk_lists.specs.Lists.{markerOf, isAligned, readEntry, readList, allAligned, segments, counted, writeList, replyChunk}
 use Rattle.header.specs.Bytes.{entryBytes, countedBytes, chunkBytes, readListBytes, writeListBytes, replyBytes, errorBytes, procedureOf, restBytes, fixedBytes, headerBytes}
 use Rattle.header.specs.Limits.{total}
 use Rattle.wire.specs.Fits.{Word32, All, SegmentFits, ReadSegmentFits}
@@ -41,11 +40,10 @@ unfolding markerOf
 marker-entry r = simp (word-of-back 1 r (omega arith))
 
 -- An entry of the read list that was written is read.
-entry-back : (last : ℕ) (x : ReadSegment) (r : List ℕ) → ReadSegmentFits x → eqb (x .position % 4) 0 ≡ true → leb last (x .position) ≡ true →
-    readEntry last (readSegmentBytes x ++ r) ≡ done x r
+entry-back : (x : ReadSegment) (r : List ℕ) → ReadSegmentFits x → isAligned (x .position) ≡ true → readEntry (readSegmentBytes x ++ r) ≡ done x r
 unfolding readEntry
-entry-back last x r f a b =
-    simp (le-leb 20 (length (readSegmentBytes x ++ r)) (omega (arith, length-read-segment x r)), position-back x r f, a, b, read-segment-back x r f, drop-read-segment x r)
+entry-back x r f a =
+    simp (le-leb 20 (length (readSegmentBytes x ++ r)) (omega (arith, length-read-segment x r)), position-back x r f, a, read-segment-back x r f, drop-read-segment x r)
 
 -- The bytes of a read list begin with those of its first entry.
 pub read-entry-first : (x : ReadSegment) (l : List ReadSegment) (r : List ℕ) → readListBytes (x ∷ l) ++ r ≡ wordBytes 1 ++ (readSegmentBytes x ++ (readListBytes l ++ r))
@@ -53,20 +51,20 @@ unfolding readListBytes joined entryBytes
 read-entry-first x l r = simp append-assoc
 
 -- A read list that was written is read.
-pub read-list-back : (l : List ReadSegment) (r : List ℕ) (room last : ℕ) → All ReadSegmentFits l → length l ≤ room → positionsNumber last l 0 ≡ 0 →
-    readList room last (readListBytes l ++ r) ≡ done l r
+pub read-list-back : (l : List ReadSegment) (r : List ℕ) (room : ℕ) → All ReadSegmentFits l → length l ≤ room → allAligned l ≡ true →
+    readList room (readListBytes l ++ r) ≡ done l r
 unfolding readList readListBytes joined All
-read-list-back [] r zero last f h p = simp (marker-end r, drop-word)
-read-list-back [] r (suc room) last f h p = simp (marker-end r, drop-word)
-read-list-back (x ∷ l) r zero last f h p = absurd (omega arith)
-read-list-back (x ∷ l) r (suc room) last f h p =
-    let up = rises last x l p in
+read-list-back [] r zero f h p = simp (marker-end r, drop-word)
+read-list-back [] r (suc room) f h p = simp (marker-end r, drop-word)
+read-list-back (x ∷ l) r zero f h p = absurd (omega arith)
+read-list-back (x ∷ l) r (suc room) f h p =
+    let a = aligned-on x l p in
     simp (
       read-entry-first x l r,
       marker-entry (readSegmentBytes x ++ (readListBytes l ++ r)),
       drop-word,
-      entry-back last x (readListBytes l ++ r) (f .0) (up .aligned) (up .above),
-      read-list-back l r room (x .position) (f .1) (omega arith) (up .onward),
+      entry-back x (readListBytes l ++ r) (f .0) (a .0),
+      read-list-back l r room (f .1) (omega arith) (a .1),
     )
 
 -- How long the bytes of segments are.
@@ -137,7 +135,7 @@ three-parts-back : (c : Content) (t : List ℕ) → Allowed c →
 unfolding threeParts
 three-parts-back c t a =
     simp (
-      read-list-back (c .reads) (writeListBytes (c .writes) ++ (replyBytes (c .reply) ++ t)) 16 0 (a .reads) (a .reads-limit) (a .rising),
+      read-list-back (c .reads) (writeListBytes (c .writes) ++ (replyBytes (c .reply) ++ t)) 16 (a .reads) (a .reads-limit) (a .aligned),
       write-list-back (c .writes) (replyBytes (c .reply) ++ t) 4 16 (a .writes) (a .chunks-limit) (a .writes-limit) (omega arith),
       reply-back (c .reply) t (a .reply),
     )

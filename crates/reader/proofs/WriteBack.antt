@@ -12,7 +12,7 @@ use lib.Seq.{drop-drop, drop-append-seam}
 use lib.Dec.{leb, eqb}
 use Rattle.wire.specs.Wire.{wordAt, wordOf, segmentAt, readSegmentAt, wordBytes, segmentBytes, readSegmentBytes, joined}
 use Rattle.chunk_lists.specs.Parsed.{Parsed, refused, done, andThen, require, prepend, each}
-use Rattle.chunk_lists.specs.Lists.{markerWord, markerOf, afterMarker, optional, readEntry, readList, positionsNumber, segments, afterWord, counted, writeList, replyChunk}
+use Rattle.chunk_lists.specs.Lists.{markerWord, markerOf, afterMarker, optional, isAligned, readEntry, readList, allAligned, segments, afterWord, counted, writeList, replyChunk}
 use Rattle.header.specs.Bytes.{countedBytes, chunkBytes, readListBytes, writeListBytes, replyBytes}
 use Rattle.header.specs.Limits.{total}
 use Rattle.wire.specs.Fits.{AllBytes, Word32, All, SegmentFits, ReadSegmentFits}
@@ -79,74 +79,71 @@ optional-done absent present s a t b e = by-word (wordOf s) refl e
     by-word (word.Value x) p q = by-value x (eqb x 0) (eqb x 1) refl refl p q
 
 -- An entry of the read list that was read.
-record EntryRead (last : ℕ) (s : List ℕ) (x : ReadSegment) (t : List ℕ) : Type 0 where
+record EntryRead (s : List ℕ) (x : ReadSegment) (t : List ℕ) : Type 0 where
   bytes : readSegmentBytes x ++ t ≡ s
   fits : ReadSegmentFits x
-  aligned : eqb (x .position % 4) 0 ≡ true
-  above : leb last (x .position) ≡ true
+  aligned : isAligned (x .position) ≡ true
 
 -- An entry that was read is what stood there.
-entry-done : (last : ℕ) (s : List ℕ) (x : ReadSegment) (t : List ℕ) → AllBytes s → readEntry last s ≡ done x t → EntryRead last s x t
+entry-done : (s : List ℕ) (x : ReadSegment) (t : List ℕ) → AllBytes s → readEntry s ≡ done x t → EntryRead s x t
 unfolding readEntry readSegmentAt
-entry-done last s x t b e =
+entry-done s x t b e =
     let p = required (leb 20 (length s)) 5 _ e in
     let q = required (eqb (wordAt s 0 % 4) 0) 9 _ (p .1) in
-    let r = required (leb last (wordAt s 0)) 8 _ (q .1) in
-    done-same (EntryRead last s) (readSegmentAt s 0) x (drop 20 s) t (r .1) (record {
+    done-same (EntryRead s) (readSegmentAt s 0) x (drop 20 s) t (q .1) (record {
       bytes = read-segment-front s 0 20 b refl (leb-true 20 (length s) (p .0));
       fits = read-segment-fits s 0 b;
       aligned = q .0;
-      above = r .0;
     })
 
 -- A read list that was read.
-pub record ReadListRead (room last : ℕ) (s : List ℕ) (l : List ReadSegment) (t : List ℕ) : Type 0 where
+pub record ReadListRead (room : ℕ) (s : List ℕ) (l : List ReadSegment) (t : List ℕ) : Type 0 where
   pub bytes : readListBytes l ++ t ≡ s
   pub fits : All ReadSegmentFits l
   pub limit : length l ≤ room
-  pub rising : positionsNumber last l 0 ≡ 0
+  pub aligned : allAligned l ≡ true
 
 -- A read list of no entries.
-reads-ended : (room last : ℕ) (s : List ℕ) (l : List ReadSegment) (t : List ℕ) → l ≡ [] → wordBytes 0 ++ t ≡ s → ReadListRead room last s l t
-unfolding readListBytes joined All positionsNumber
-reads-ended room last s l t n e = simp n (record { bytes = e; fits = tt; limit = omega arith; rising = refl })
+reads-ended : (room : ℕ) (s : List ℕ) (l : List ReadSegment) (t : List ℕ) → l ≡ [] → wordBytes 0 ++ t ≡ s → ReadListRead room s l t
+unfolding readListBytes joined All allAligned
+reads-ended room s l t n e = simp n (record { bytes = e; fits = tt; limit = omega arith; aligned = refl })
 
 -- A read list of one entry more.
-reads-entered : (room last : ℕ) (s u : List ℕ) (x : ReadSegment) (l : List ReadSegment) (t : List ℕ) →
-    wordBytes 1 ++ drop 4 s ≡ s → EntryRead last (drop 4 s) x u → ReadListRead room (x .position) u l t → ReadListRead (suc room) last s (x ∷ l) t
-unfolding All positionsNumber
-reads-entered room last s u x l t m entry more =
+reads-entered : (room : ℕ) (s u : List ℕ) (x : ReadSegment) (l : List ReadSegment) (t : List ℕ) →
+    wordBytes 1 ++ drop 4 s ≡ s → EntryRead (drop 4 s) x u → ReadListRead room u l t → ReadListRead (suc room) s (x ∷ l) t
+unfolding All allAligned
+reads-entered room s u x l t m entry more =
     record {
       bytes = simp (read-entry-first x l t, more .bytes, entry .bytes) m;
       fits = (entry .fits, more .fits);
       limit = omega (arith, more .limit);
-      rising = simp (entry .aligned, entry .above) (more .rising);
+      aligned = simp (entry .aligned) (more .aligned);
     }
 
 -- A read list that was read is what stood there, and keeps the rules.
-pub read-list-done : (room last : ℕ) (s : List ℕ) (l : List ReadSegment) (t : List ℕ) → AllBytes s → readList room last s ≡ done l t → ReadListRead room last s l t
+pub read-list-done : (room : ℕ) (s : List ℕ) (l : List ReadSegment) (t : List ℕ) → AllBytes s → readList room s ≡ done l t → ReadListRead room s l t
 unfolding readList
-read-list-done zero last s l t b e = go (optional-done [] (λ u. refused 7) s l t b e)
+read-list-done zero s l t b e = go (optional-done [] (λ u. refused 7) s l t b e)
   where
-    go : OptionalRead [] (λ u. refused 7) s l t → ReadListRead zero last s l t
-    go (ended n m) = reads-ended zero last s l t n m
+    go : OptionalRead [] (λ u. refused 7) s l t → ReadListRead zero s l t
+    go (ended n m) = reads-ended zero s l t n m
     go (entered m f) = absurd (never f)
-read-list-done (suc room) last s l t b e = go (optional-done [] next s l t b e) (read-list-done room)
+read-list-done (suc room) s l t b e = go (optional-done [] next s l t b e) (read-list-done room)
   where
     next : List ℕ → Parsed (List ReadSegment)
-    next u = andThen (readEntry last u) (λ x v. prepend x (readList room (x .position) v))
+    next u = andThen (readEntry u) (λ x v. prepend x (readList room v))
 
     go : OptionalRead [] next s l t →
-        ((last' : ℕ) (s' : List ℕ) (l' : List ReadSegment) (t' : List ℕ) → AllBytes s' → readList room last' s' ≡ done l' t' → ReadListRead room last' s' l' t') →
-        ReadListRead (suc room) last s l t
-    go (ended n m) ih = reads-ended (suc room) last s l t n m
+        ((s' : List ℕ) (l' : List ReadSegment) (t' : List ℕ) → AllBytes s' → readList room s' ≡ done l' t' → ReadListRead room s' l' t') →
+        ReadListRead (suc room) s l t
+    go (ended n m) ih = reads-ended (suc room) s l t n m
     go (entered m f) ih =
-        let one = both (readEntry last (drop 4 s)) f in
+        let one = both (readEntry (drop 4 s)) f in
         let x = one .first in
-        let entry = entry-done last (drop 4 s) x (one .behind) (bytes-drop 4 s b) (one .is) in
-        let two = longer x (readList room (x .position) (one .behind)) l t (one .then) in
-        let more = ih (x .position) (one .behind) (two .rest) t (bytes-behind (readSegmentBytes x) (one .behind) (drop 4 s) (entry .bytes) (bytes-drop 4 s b)) (two .read) in
-        subst (λ (k : List ReadSegment). ReadListRead (suc room) last s k t) (sym (two .is)) (reads-entered room last s (one .behind) x (two .rest) t m entry more)
+        let entry = entry-done (drop 4 s) x (one .behind) (bytes-drop 4 s b) (one .is) in
+        let two = longer x (readList room (one .behind)) l t (one .then) in
+        let more = ih (one .behind) (two .rest) t (bytes-behind (readSegmentBytes x) (one .behind) (drop 4 s) (entry .bytes) (bytes-drop 4 s b)) (two .read) in
+        subst (λ (k : List ReadSegment). ReadListRead (suc room) s k t) (sym (two .is)) (reads-entered room s (one .behind) x (two .rest) t m entry more)
 
 -- Segments that were read one behind the other are what stood there.
 each-front : (n : ℕ) (s : List ℕ) → AllBytes s → n * 16 ≤ length s → joined segmentBytes (each 16 (λ t. segmentAt t 0) n s) ++ drop (n * 16) s ≡ s

@@ -19,7 +19,7 @@ use Rattle.reader.specs.declared.ReadAnswer.{ReadAnswer}
 -- "MSG and NOMSG go on with three parts."
 unfoldable pub threeParts : Kind → ℕ → ℕ → List ℕ → Parsed Content
 threeParts kind xid credit s =
-    andThen (readList maxReadSegments 0 s) (λ reads t. andThen (writeList maxWriteChunks maxWriteSegments t) (λ writes u. andThen (replyChunk u) (λ reply v.
+    andThen (readList maxReadSegments s) (λ reads t. andThen (writeList maxWriteChunks maxWriteSegments t) (λ writes u. andThen (replyChunk u) (λ reply v.
     done (record { kind = kind; xid = xid; credit = credit; reads = reads; writes = writes; reply = reply }) v)))
 
 -- An ERROR header has no lists.

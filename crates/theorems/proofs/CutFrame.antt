@@ -21,7 +21,7 @@ use Rattle.theorems.specs.Cuts.{CutOf, cutFrame}
 use Rattle.header.proofs.Allowed.{Allowed, BareIfError}
 use Rattle.reader.proofs.ReadBack.{header-back}
 use Rattle.reader.proofs.FrameRead.{frame-done}
-use Rattle.theorems.proofs.Cutting.{withReads, itself, rise-cut}
+use Rattle.theorems.proofs.Cutting.{withReads, itself, aligned-cut}
 
 -- The bytes of a frame whose read list was cut.
 cut-frame-bytes : (fixed reads rest cut s : List ℕ) → length fixed ≡ 16 → fixed ++ (reads ++ rest) ≡ s → take 16 s ++ (cut ++ drop (16 + length reads) s) ≡ fixed ++ (cut ++ rest)
@@ -72,7 +72,7 @@ module _ (s : List ℕ) (c : Content) (t : List ℕ) (b : AllBytes s) (read : re
         credit = a .credit;
         reads = k .fits;
         reads-limit = k .few;
-        rising = rise-cut (k .cuts) 0 (a .rising);
+        aligned = aligned-cut (k .cuts) (a .aligned);
         writes = a .writes;
         chunks-limit = a .chunks-limit;
         writes-limit = a .writes-limit;

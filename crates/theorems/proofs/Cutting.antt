@@ -3,15 +3,14 @@
 use mathlib.Core.Path.{_≡_, refl, sym}
 use mathlib.Core.Bool.{Bool, true, false, cond, _||_}
 use mathlib.Core.List.{List, [], _∷_}
-use Prim.Native.Nat.{ℕ, _+_}
-use native.Mathlib.Nat.{le-refl, add-assoc}
+use Prim.Native.Nat.{_+_}
+use native.Mathlib.Nat.{add-assoc}
 use native.Mathlib.Omega.{arith}
 use lib.ListN.{length}
 use lib.Dec.{eqb}
-use borrow.Author.Tests.{le-leb}
 use Rattle.wire.specs.declared.ReadSegment.{ReadSegment}
-use Rattle.chunk_lists.specs.Lists.{positionsNumber}
-use Rattle.chunk_lists.proofs.Positions.{rises}
+use Rattle.chunk_lists.specs.Lists.{allAligned}
+use Rattle.chunk_lists.proofs.Positions.{aligned-on}
 use Rattle.header.specs.Content.{Content}
 use Rattle.layout.specs.Layout.{anyAtZero, zeroLength, otherChunks, joinChunk}
 use Rattle.layout.proofs.Joins.{join-join}
@@ -59,13 +58,9 @@ zero-cut (more {x} {y} {z} {xs} {ys} p q l c) = rw (p, zero-cut c, zeroLength, q
     by true = sym (add-assoc (y .target .length) (z .target .length) (zeroLength xs))
     by false = omega arith
 
--- Its positions are in order too.
-pub rise-cut : {xs ys : List ReadSegment} → Cut xs ys → (before : ℕ) → positionsNumber before xs 0 ≡ 0 → positionsNumber before ys 0 ≡ 0
-unfolding positionsNumber
-rise-cut none before e = refl
-rise-cut (last {x} {y} {xs} {ys} p l c) before e =
-    let up = rises before x xs e in
-    rw (p, up .aligned, up .above) (rise-cut c (x .position) (up .onward))
-rise-cut (more {x} {y} {z} {xs} {ys} p q l c) before e =
-    let up = rises before x xs e in
-    rw (p, up .aligned, up .above) (rise-cut c (x .position) (rw (q, up .aligned, le-leb (x .position) (x .position) (le-refl (x .position))) (up .onward)))
+-- Its positions are multiples of 4 too.
+pub aligned-cut : {xs ys : List ReadSegment} → Cut xs ys → allAligned xs ≡ true → allAligned ys ≡ true
+unfolding allAligned
+aligned-cut none e = refl
+aligned-cut (last {x} {y} {xs} {ys} p l c) e = let a = aligned-on x xs e in rw (p, a .0) (aligned-cut c (a .1))
+aligned-cut (more {x} {y} {z} {xs} {ys} p q l c) e = let a = aligned-on x xs e in rw (p, a .0) (aligned-cut c (rw (q, a .0) (a .1)))

@@ -8,11 +8,13 @@ use mathlib.Core.Option.{some}
 use Prim.Native.Nat.{ℕ, _+_, _-_, _/_, _≤_}
 use lib.ListN.{length, getD, take, drop, replicate}
 use Rattle.wire.specs.Wire.{wordAt, joined}
-use Rattle.wire.specs.Fits.{AllBytes, AllWords, All, Word32}
+use Rattle.wire.specs.Fits.{AllBytes, AllWords, All, Word32, ReadSegmentFits}
 use Rattle.answers.specs.Answers.{unlessRefused}
 use Rattle.wire.specs.declared.Segment.{Segment}
 use Rattle.wire.specs.declared.ReadSegment.{ReadSegment}
 use Rattle.chunk_lists.specs.Parsed.{done}
+use Rattle.chunk_lists.specs.Lists.{readList}
+use Rattle.header.specs.Bytes.{readListBytes}
 use Rattle.header.specs.Content.{Content, padded, headerOf, contentOf}
 use Rattle.header.specs.Limits.{keepsLimits}
 use Rattle.header.specs.Fits.{Representable, zeroed}
@@ -30,15 +32,22 @@ use Rattle.error_reply.specs.Reply.{replyKindFor, errorReply, errorReplyNumber,
 use Rattle.error_reply.specs.Meant.{meant}
 use Rattle.error_reply.specs.declared.ReplyKind.the-variants as reply
 use Rattle.error_reply.proofs.ReplyRead as reply-read
+use Rattle.read_order.specs.ReadOrder.{sorted, isSorted}
+use Rattle.read_order.specs.SortedOf.{SortedOf}
+use Rattle.read_order.proofs.Sorting as sorting
+use Rattle.layout.proofs.ByChunk as by-chunk
 use Rattle.layout.specs.Places.{from}
 use Rattle.layout.specs.Layout.{otherChunks, basePlaces}
 use Rattle.layout.specs.Once.{Once}
 use Rattle.placing.specs.Segments.{segmentPlaces, segmentNumbers, positionLength}
 use Rattle.placing.specs.Goes.{Fewest}
 use Rattle.assembly_state.specs.State.{State}
-use Rattle.assembly_start.specs.Start.{baseOf, startNumber, startAnswer}
-use Rattle.assembly.specs.Assembly.{readsOf, chunksOf, pulledOf, canArise, pieceNumber, pulledBytesOf, pieceGoes, pieceAnswer}
+use Rattle.assembly_state.specs.Words.{stateIn}
+use Rattle.assembly_start.specs.Start.{baseOf, startNumber, startWords, startBuffer, startAnswer}
+use Rattle.assembly_start.proofs.AnyOrder as any-order
+use Rattle.assembly.specs.Assembly.{readsOf, chunksOf, pulledOf, canArise, pieceNumber, pulledBytesOf, pieceGoes, pieceAnswer, messageNumber}
 use Rattle.assembly.proofs.Goes as piece-goes
+use Rattle.assembly.proofs.Kept as kept
 use Rattle.returned.specs.Returned.{chunkLength, replyChunkLength, returnedAnswer, returnedWordsNumber, returnedWordsPlaces}
 use Rattle.returned.specs.Filled.{filled, Fills}
 use Rattle.returned.proofs.Fills as fills
@@ -48,14 +57,18 @@ use Rattle.c_header.specs.Part.{partOf}
 use Rattle.c_header.proofs.RoundTrip as c-header
 use Rattle.c_setup.specs.Words.{setupWords, writeSetupWordsAnswer, writeSetupWordsBuffer, Stores}
 use Rattle.c_setup.proofs.RoundTrip as c-setup
-use Rattle.theorems.specs.Calls.{Call, startThen}
+use Rattle.theorems.specs.Message.{bytesByChunk}
+use Rattle.theorems.specs.Calls.{Call, piece, startThen}
 use Rattle.theorems.specs.Cuts.{CutOf}
 use Rattle.theorems.specs.Demands.{takenBytes, Finished, Unchanged}
+use Rattle.theorems.specs.Reserved.{NeverGiven}
 use Rattle.theorems.specs.Exports.{exportThen}
-use Rattle.theorems.specs.Examples.{Holds, examples, numbers, edges, returnedCases, goesCases}
+use Rattle.theorems.specs.Examples.{Holds, examples, numbers, edges, returnedCases, goesCases, orderCases}
 use Rattle.theorems.proofs.Message as message
 use Rattle.theorems.proofs.Demand3 as demand-three
 use Rattle.theorems.proofs.Exports as exports
+use Rattle.theorems.proofs.Reserved as reserved
+use Rattle.theorems.proofs.InOrder as in-order
 use Rattle.theorems.proofs.Examples as worked
 use Rattle.theorems.proofs.Returned as returns
 
@@ -239,7 +252,7 @@ order-2-refused = piece-goes.none-for-refused
 pub order-2-counted : (s : State) (room size : ℕ) → pieceNumber s room size ≡ 0 → map (λ b. b .place) (take size (drop (s .taken) (pulledBytesOf s))) ≡ take size (drop (s .taken) (pulledOf s))
 order-2-counted = piece-goes.counted-there
 
--- And each is counted as of its own segment, by list order.
+-- And each is counted as of its own segment, in the order of the list.
 pub order-2-list-order : (s : State) → canArise s ≡ true → map (λ b. b .segment) (pulledBytesOf s) ≡ segmentNumbers 0 (readsOf s)
 order-2-list-order = piece-goes.in-list-order
 
@@ -255,3 +268,65 @@ order-2-own-places = piece-goes.own-places
 -- Order 2, case by case in numbers: 31 among them.
 pub order-2-cases : All Holds goesCases
 order-2-cases = worked.goes-taken
+
+-- Order 3: "8 is never given again and stays reserved." (That it gets its chunk reply as an argument of the error reply is a case of `order-3-cases`.)
+pub order-3-never-8 : NeverGiven 8
+order-3-never-8 = reserved.never-eight
+
+-- "For reassembly the list of read segments is sorted where it lies, by position, segments of one position staying in wire order.": `sorted` is that list, nothing else is, and a list that is sorted stays as it is.
+pub order-3-sorted : (wire : List ReadSegment) → SortedOf wire (sorted wire)
+order-3-sorted = sorting.sorted-is
+
+pub order-3-only : (wire list : List ReadSegment) → SortedOf wire list → list ≡ sorted wire
+order-3-only = sorting.sorted-only
+
+pub order-3-stays : (list : List ReadSegment) → isSorted list ≡ true → sorted list ≡ list
+order-3-stays = sorting.sorted-stays
+
+-- The state of an accepted start holds it.
+pub order-3-state : (frame : List ℕ) (room : ℕ) (before : List ℕ) (c : Content) (inline : List ℕ) → readFrame frame ≡ done c inline → startNumber (readFrame frame) room ≡ 0 →
+    readsOf (stateIn (startWords (readFrame frame) room before)) ≡ sorted (c .reads)
+order-3-state = in-order.state-list
+
+-- "A state whose list is not sorted gets 17."
+pub order-3-not-sorted : (s : State) (room size : ℕ) → isSorted (readsOf s) ≡ false → (pieceNumber s room size ≡ 17) × (messageNumber s room ≡ 17)
+order-3-not-sorted = kept.unsorted
+
+-- And one that can arise passes 7 and 9 as the reader has them: its bytes read as that list.
+pub order-3-state-reads : (s : State) → canArise s ≡ true → All ReadSegmentFits (readsOf s) → readList 16 (readListBytes (readsOf s)) ≡ done (readsOf s) []
+order-3-state-reads = in-order.state-reads
+
+-- "sends its chunks in any order of position": lists that are one list when they are sorted give one start.
+pub order-3-any-order : (c d : Content) (inline out before : List ℕ) → c .kind ≡ d .kind → sorted (c .reads) ≡ sorted (d .reads) →
+    (startNumber (done c inline) (length out) ≡ startNumber (done d inline) (length out))
+    × (startWords (done c inline) (length out) before ≡ startWords (done d inline) (length out) before)
+    × (startBuffer (done c inline) out ≡ startBuffer (done d inline) out)
+order-3-any-order = λ c d inline out before kind list.
+    (any-order.same-number c d inline kind list (length out), any-order.same-words c d inline kind list (length out) before, any-order.same-buffer c d inline kind list out)
+
+-- "Pulled bytes come in this sorted order": the position-zero chunk first, then each other chunk, by position, its segments joined as they stand on the wire.
+pub order-3-by-chunk : (wire : List ReadSegment) (bytes : ReadSegment → List ℕ) → joined bytes (sorted wire) ≡ bytesByChunk bytes wire
+order-3-by-chunk = by-chunk.pulled-by-chunk
+
+-- "and demands 2 and 3 read so": one who pulls what the state's list says, in whatever pieces, gets the message in which each chunk has its segments' bytes in wire order.
+pub order-3-message : (bytes : ReadSegment → List ℕ) → ((x : ReadSegment) → length (bytes x) ≡ x .target .length) →
+    (frame out : List ℕ) (c : Content) (inline : List ℕ) → AllBytes frame → readFrame frame ≡ done c inline → startAnswer (readFrame frame) (length out) .number ≡ 0 →
+    (calls : List Call) → takenBytes calls (startThen frame out calls .outcomes) ≡ joined bytes (readsOf (stateIn (startAnswer (readFrame frame) (length out) .state))) →
+    Finished c inline out (bytesByChunk bytes (c .reads)) (startThen frame out calls)
+order-3-message = in-order.pulled-finished
+
+pub exports-order-3-message : (bytes : ReadSegment → List ℕ) → ((x : ReadSegment) → length (bytes x) ≡ x .target .length) →
+    (frame out : List ℕ) (c : Content) (inline : List ℕ) → AllBytes frame → readFrame frame ≡ done c inline → startNumber (readFrame frame) (length out) ≡ 0 → (before : List ℕ) (size : ℕ) →
+    (calls : List Call) → takenBytes calls (exportThen frame out before size calls .outcomes) ≡ joined bytes (readsOf (stateIn (startWords (readFrame frame) (length out) before))) →
+    Finished c inline out (bytesByChunk bytes (c .reads)) (exportThen frame out before size calls)
+exports-order-3-message = in-order.export-finished
+
+-- And all that it says can be handed in: in one piece, which is taken.
+pub order-3-at-once : (bytes : ReadSegment → List ℕ) → ((x : ReadSegment) → length (bytes x) ≡ x .target .length) →
+    (frame out : List ℕ) (c : Content) (inline : List ℕ) → AllBytes frame → readFrame frame ≡ done c inline → startAnswer (readFrame frame) (length out) .number ≡ 0 →
+    (t : List ℕ) → t ≡ joined bytes (readsOf (stateIn (startAnswer (readFrame frame) (length out) .state))) → takenBytes (piece t ∷ []) (startThen frame out (piece t ∷ []) .outcomes) ≡ t
+order-3-at-once = in-order.taken-at-once
+
+-- Order 3, case by case.
+pub order-3-cases : All Holds orderCases
+order-3-cases = worked.in-any-order

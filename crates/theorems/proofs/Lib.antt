@@ -10,4 +10,6 @@ pub mod MessageBuffer
 pub mod TallySettles
 pub mod CutFrame
 pub mod Returned
+pub mod Reserved
+pub mod InOrder
 pub mod Demands

@@ -36,7 +36,7 @@ module _ (frame out : List ℕ) (c : Content) (inline : List ℕ) (b : AllBytes 
     read-cut = cut-read frame c inline b read (anyAtZero (c .reads)) (passed .fits) cut k
 
     cut-zero : startNumber (done (withReads c cut) inline) (length out) ≡ 0
-    cut-zero = cut-number c inline out cut zero-number (frame-done frame c inline b read .allowed .rising) (k .cuts) (k .few)
+    cut-zero = cut-number c inline out cut zero-number (frame-done frame c inline b read .allowed .aligned) (k .cuts) (k .few)
 
     pub cut-accepted : startAnswer (readFrame (cutFrame frame (c .reads) cut)) (length out) .number ≡ 0
     cut-accepted = rw read-cut cut-zero
@@ -44,7 +44,7 @@ module _ (frame out : List ℕ) (c : Content) (inline : List ℕ) (b : AllBytes 
     pub cut-tallied : (calls : List Call) → cutThen frame out c cut calls ≡ tally c inline out [] calls
     cut-tallied calls =
         started-run (cutFrame frame (c .reads) cut) out (withReads c cut) inline read-cut cut-zero (stateWords noState) calls
-        ∙ tallied c inline out cut zero-number (frame-done frame c inline b read .allowed .rising) (k .cuts) (k .few) calls
+        ∙ tallied c inline out cut zero-number (frame-done frame c inline b read .allowed .aligned) (k .cuts) (k .few) calls
 
   itself : CutOf (c .reads) (c .reads)
   itself = cut-of-itself frame c inline b read (anyAtZero (c .reads)) (passed .fits)

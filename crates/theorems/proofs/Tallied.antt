@@ -10,11 +10,13 @@ use lib.Seq.{take-append-seam}
 use lib.Dec.{eqb}
 use borrow.Author.Tests.{leb-true, le-leb, eq-eqb}
 use Rattle.wire.specs.declared.ReadSegment.{ReadSegment}
-use Rattle.chunk_lists.specs.Lists.{positionsNumber}
+use Rattle.chunk_lists.specs.Lists.{allAligned}
 use Rattle.chunk_lists.specs.Parsed.{done}
 use Rattle.header.specs.Content.{Content, readListOf}
 use Rattle.header.specs.declared.Kind.{Kind}
 use Rattle.header.specs.declared.Kind.the-variants.{Msg, Nomsg, Error}
+use Rattle.read_order.specs.ReadOrder.{sorted}
+use Rattle.read_order.proofs.Sorting.{length-sorted, sorted-rises, aligned-sorted}
 use Rattle.layout.specs.Places.{scatter}
 use Rattle.layout.specs.Layout.{otherChunks, baseLength, pulledPlaces}
 use Rattle.layout.proofs.Scatter.{length-scatter, scatter-none, scatter-append}
@@ -26,8 +28,9 @@ use Rattle.theorems.specs.Tally.{pulledPlacesOf, tallyBuffer, hasRoom, i
 use Rattle.theorems.specs.Cuts.{Cut}
 use Rattle.assembly.proofs.Kept.{withCount, takenState}
 use Rattle.layout.proofs.Passed.{base-again}
+use Rattle.layout.proofs.Unseen.{others-sorted, any-sorted, base-sorted}
 use Rattle.theorems.proofs.Lent.{stateOutcome, ran}
-use Rattle.theorems.proofs.Cutting.{withReads, others-cut, any-cut, zero-cut, rise-cut}
+use Rattle.theorems.proofs.Cutting.{withReads, others-cut, any-cut, zero-cut, aligned-cut}
 
 -- The base length does not depend on the cut.
 pub base-cut : (kind : Kind) (inline : ℕ) (xs ys : List ReadSegment) → Cut xs ys → baseLength kind inline ys ≡ baseLength kind inline xs
@@ -39,7 +42,7 @@ pub length-tally : (c : Content) (inline out t : List ℕ) → length (tallyBuff
 unfolding tallyBuffer startWrites
 length-tally c inline out t = simp length-scatter
 
-module _ (c : Content) (inline out : List ℕ) (cut : List ReadSegment) (ok : startNumber (done c inline) (length out) ≡ 0) (rise : positionsNumber 0 (c .reads) 0 ≡ 0) (k : Cut (c .reads) cut) (few : length cut ≤ 16) where
+module _ (c : Content) (inline out : List ℕ) (cut : List ReadSegment) (ok : startNumber (done c inline) (length out) ≡ 0) (aligned : allAligned (c .reads) ≡ true) (k : Cut (c .reads) cut) (few : length cut ≤ 16) where
   base-same : baseOf (withReads c cut) inline ≡ baseOf c inline
   base-same = base-cut (c .kind) (length inline) (c .reads) cut k
 
@@ -48,15 +51,18 @@ module _ (c : Content) (inline out : List ℕ) (cut : List ReadSegment) (ok : st
   unfolding startNumber
   cut-number = rw (any-cut k, others-cut k, base-same) ok
 
-  -- The state of the cut start after n bytes.
+  -- The state of the cut start after n bytes: it holds the cut list, sorted.
   abbrev after : ℕ → State
-  after n = record { reads = readListOf cut; kind = c .kind; base = baseOf c inline; buffer = length out; taken = n }
+  after n = record { reads = readListOf (sorted cut); kind = c .kind; base = baseOf c inline; buffer = length out; taken = n }
 
-  reads-after : (n : ℕ) → readsOf (after n) ≡ cut
-  reads-after n = take-append-seam cut _
+  reads-after : (n : ℕ) → readsOf (after n) ≡ sorted cut
+  reads-after n = take-append-seam (sorted cut) _
+
+  others-same : otherChunks (sorted cut) ≡ otherChunks (c .reads)
+  others-same = others-sorted cut ∙ others-cut k
 
   chunks-after : (n : ℕ) → chunksOf (after n) ≡ otherChunks (c .reads)
-  chunks-after n = ap otherChunks (reads-after n) ∙ others-cut k
+  chunks-after n = ap otherChunks (reads-after n) ∙ others-same
 
   pulled-after : (n : ℕ) → pulledOf (after n) ≡ pulledPlacesOf c inline
   pulled-after n = ap (pulledPlaces (c .kind) (baseOf c inline)) (chunks-after n)
@@ -64,13 +70,17 @@ module _ (c : Content) (inline out : List ℕ) (cut : List ReadSegment) (ok : st
   fits-after : (n : ℕ) → n ≤ length (pulledPlacesOf c inline) → fitsState (after n) (length out) ≡ true
   unfolding canArise startNumber
   fits-after n h =
-      let zero-cut-base : baseLength (c .kind) (baseOf c inline) cut ≡ baseOf c inline = base-cut (c .kind) (baseOf c inline) (c .reads) cut k ∙ base-again (c .kind) (length inline) (c .reads) in
+      let zero-cut-base : baseLength (c .kind) (baseOf c inline) (sorted cut) ≡ baseOf c inline =
+      base-sorted (c .kind) (baseOf c inline) cut ∙ base-cut (c .kind) (baseOf c inline) (c .reads) cut k ∙ base-again (c .kind) (length inline) (c .reads) in
       rw (
-        le-leb (length cut) 16 few,
+        le-leb (length (sorted cut)) 16 (rw (length-sorted cut) few),
         reads-after n,
-        rise-cut k 0 rise,
+        sorted-rises cut,
+        aligned-sorted cut,
+        aligned-cut k aligned,
+        any-sorted cut,
         any-cut k,
-        others-cut k,
+        others-same,
         ok,
         eq-eqb _ _ zero-cut-base,
         le-leb n (length (pulledPlacesOf c inline)) h,

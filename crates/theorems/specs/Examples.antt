@@ -12,7 +12,7 @@ use Rattle.header.specs.Content.{headerOf}
 use Rattle.header.specs.declared.Header.{Header}
 use Rattle.header.specs.declared.Kind.the-variants.{Msg, Nomsg, Error}
 use Rattle.writer.specs.Write.{writeAnswer, writeBuffer}
-use Rattle.assembly.specs.Assembly.{pieceAnswer, pieceWords}
+use Rattle.assembly.specs.Assembly.{pieceAnswer, pieceWords, messageNumber}
 use Rattle.assembly.specs.declared.PieceAnswer.{PieceAnswer}
 use Rattle.assembly_state.specs.Words.{stateIn}
 use Rattle.assembly_start.specs.Start.{startAnswer}
@@ -70,6 +70,8 @@ pub data Example : Type 0 where
   start-words : List ℕ → ℕ → List (ℕ × ℕ) → Example
   -- a piece of so many bytes, for a state that lies in these words and a buffer of so many bytes, gives this number
   piece-gives : List ℕ → ℕ → ℕ → ℕ → Example
+  -- asking for the message of such a state gives this number
+  message-gives : List ℕ → ℕ → ℕ → Example
   -- pieces of so many bytes, one after the other, for a state that lies in these words and a buffer of so many bytes, are answered so
   pieces-take : List ℕ → ℕ → List ℕ → List PieceAnswer → Example
   -- a header that was sent and the reply's: so many bytes landed in each write chunk and in the reply chunk
@@ -109,6 +111,7 @@ Holds (replies-are kinds) = map replyKindOf (from 0 22) ≡ kinds
 Holds (reply-gives frame number limit room refusal) = errorReplyAnswer frame number limit room ≡ record { number = refusal; length = 0 }
 Holds (start-words frame room values) = All (λ x. getD (startAnswer (readFrame frame) room .state) (x .0) 0 ≡ x .1) values
 Holds (piece-gives w room size number) = pieceAnswer (stateIn w) room size .number ≡ number
+Holds (message-gives w room number) = messageNumber (stateIn w) room ≡ number
 Holds (pieces-take w room sizes answers) = pieceAnswers w room sizes ≡ answers
 Holds (lands sent reply writes n) = returnedAnswer sent reply ≡ record { writes = writes; reply = n; number = 0 }
 Holds (lands-not sent reply number) = returnedAnswer sent reply ≡ record { writes = 0 ∷ 0 ∷ 0 ∷ 0 ∷ []; reply = 0; number = number }
@@ -195,13 +198,12 @@ examples =
     ∷ header-takes full 960
     ∷ []
 
--- The numbers of the table that C1 to C13 do not show, each given once (21 cannot be given).
+-- The numbers of the table that C1 to C13 do not show, each given once (21 cannot be given, and 8 is not since order 3).
 abbrev pub numbers : List Example
 numbers =
     frame-reads (words (0x2a ∷ 1 ∷ 0x20 ∷ 2 ∷ [])) 3 []
     ∷ frame-reads (words (0x2a ∷ 1 ∷ 0x20 ∷ 3 ∷ [])) 4 []
     ∷ frame-reads (call 0 (replicate 17 (4, 0)) []) 7 []
-    ∷ frame-reads (call 0 ((8, 4) ∷ (4, 4) ∷ []) []) 8 []
     ∷ frame-reads (call 0 ((6, 4) ∷ []) []) 9 []
     ∷ frame-reads (words (0x2a ∷ 1 ∷ 0x20 ∷ 4 ∷ 3 ∷ [])) 10 []
     ∷ frame-reads (call 1 [] (0xff ∷ [])) 11 []
@@ -282,7 +284,7 @@ edges =
     ∷ header-gives (reading Msg (replicate 17 6)) 0 7
     ∷ header-gives (counting Msg 0 0 noCounts false 1) 0 7
     ∷ header-gives (reading Msg (8 ∷ 6 ∷ [])) 0 9
-    ∷ header-gives (reading Msg (8 ∷ 4 ∷ [])) 0 8
+    ∷ header-gives (reading Msg (8 ∷ 4 ∷ [])) 0 16
     ∷ header-gives (reading Msg []) 27 16
     ∷ header-words distinct ((0, 4) ∷ (1, 0) ∷ (2, 5) ∷ (3, 6) ∷ (4, 7) ∷ (5, 8) ∷ (96, 11) ∷ (97, 12) ∷ (98, 13) ∷ (99, 0) ∷ (160, 14) ∷ (164, 17) ∷ (224, 1) ∷ (225, 0) ∷ (228, 1) ∷ (229, 2) ∷ (230, 1) ∷ (231, 3) ∷ (232, 2) ∷ (233, 9) ∷ (234, 10) ∷ (235, 0x2a) ∷ (236, 0x20) ∷ (237, 0) ∷ [])
     ∷ setup-reads (0xf6 ∷ 0xab ∷ 0x0e ∷ 0x18 ∷ 0x01 ∷ 0x03 ∷ 0x03 ∷ 0x07 ∷ []) (record { setup = side true 4096 8192; present = true; number = 0 })
@@ -474,4 +476,85 @@ goesCases =
     ∷ pieces-take (replicate 103 0 ++ (2 ∷ [])) 0 (0 ∷ []) (record { number = 17; goes = 0 } ∷ [])
     ∷ pieces-take (started (words (0x2a ∷ 1 ∷ 0x20 ∷ 0 ∷ 1 ∷ 4 ∷ 7 ∷ 3 ∷ 0 ∷ 9 ∷ 1 ∷ 4 ∷ 7 ∷ 5 ∷ 0 ∷ 12 ∷ 0 ∷ 0 ∷ 0 ∷ []) ++ four) 12) 12 (8 ∷ []) (took 2 ∷ [])
     ∷ pieces-take (started (words (0x2a ∷ 1 ∷ 0x20 ∷ 1 ∷ 1 ∷ 0 ∷ 7 ∷ 4 ∷ 0 ∷ 9 ∷ 1 ∷ 0 ∷ 7 ∷ 8 ∷ 0 ∷ 13 ∷ 0 ∷ 0 ∷ 0 ∷ [])) 12) 12 (12 ∷ []) (took 2 ∷ [])
+    ∷ []
+
+-- The words of a read list with these entries of position, handle and length.
+unfoldable pub handleWords : List (ℕ × ℕ × ℕ) → List ℕ
+handleWords [] = 0 ∷ []
+handleWords (e ∷ es) = 1 ∷ e .0 ∷ e .1 ∷ e .2 ∷ 0 ∷ 9 ∷ handleWords es
+
+-- A frame with this procedure, read entries of these positions, handles and lengths, and these inline bytes.
+abbrev pub handleCall : ℕ → List (ℕ × ℕ × ℕ) → List ℕ → List ℕ
+handleCall procedure entries inline = words (0x2a ∷ 1 ∷ 0x20 ∷ procedure ∷ []) ++ words (handleWords entries) ++ words (0 ∷ 0 ∷ []) ++ inline
+
+-- Where the position, the handle and the length of place i stand in a state's words.
+abbrev pub placeWords : ℕ → ℕ × ℕ × ℕ → List (ℕ × ℕ)
+placeWords i e = (i * 6, e .0) ∷ (i * 6 + 2, e .1) ∷ (i * 6 + 3, e .2) ∷ []
+
+-- The first places of a state's list, from place i on.
+unfoldable pub listWords : ℕ → List (ℕ × ℕ × ℕ) → List (ℕ × ℕ)
+listWords i [] = []
+listWords i (e ∷ es) = placeWords i e ++ listWords (i + 1) es
+
+-- A start over a frame with these entries, 12 bytes inline and a buffer of so many bytes leaves this list, its length, and a place behind it that is zero.
+abbrev pub lists : List (ℕ × ℕ × ℕ) → ℕ → List (ℕ × ℕ × ℕ) → Example
+lists entries room list = start-words (handleCall 0 entries twelve) room (listWords 0 list ++ placeWords (length list) (0, 0, 0) ++ ((102, length list) ∷ []))
+
+-- The state of C7's call, but with these two positions.
+abbrev pub positioned : ℕ → ℕ → List ℕ
+positioned p q = set (set (started (call 0 ((8, 5) ∷ (16, 4) ∷ []) twelve) 24) 0 p) 6 q
+
+-- 16 entries of no bytes, their positions falling from 64 to 4, with handles from 0 on; and the same, sorted.
+abbrev pub falling16 : List (ℕ × ℕ × ℕ)
+falling16 = map (λ i. (64 - 4 * i, i, 0)) (from 0 16)
+
+abbrev pub rising16 : List (ℕ × ℕ × ℕ)
+rising16 = map (λ i. (4 + 4 * i, 15 - i, 0)) (from 0 16)
+
+-- What order 3 says: reading and writing in wire order; 9 and 7 by entries; lists that a start leaves; messages whose pieces come in sorted order; numbers of a start; states, with what else 17 is given for; goes; 8 as an argument of the error reply.
+abbrev pub orderCases : List Example
+orderCases =
+    frame-reads (call 0 ((8, 4) ∷ (4, 4) ∷ []) four) 0 four
+    ∷ header-takes (reading Msg (8 ∷ 4 ∷ 8 ∷ 0 ∷ [])) 124
+    ∷ header-writes (reading Msg (8 ∷ 4 ∷ [])) (words (0 ∷ 1 ∷ 0 ∷ 0 ∷ 1 ∷ 8 ∷ 0 ∷ 0 ∷ 0 ∷ 0 ∷ 1 ∷ 4 ∷ 0 ∷ 0 ∷ 0 ∷ 0 ∷ 0 ∷ 0 ∷ 0 ∷ []))
+    ∷ frame-reads (call 0 ((8, 4) ∷ (6, 4) ∷ (4, 4) ∷ []) []) 9 []
+    ∷ frame-reads (call 0 ((6, 0) ∷ replicate 16 (4, 0)) []) 9 []
+    ∷ frame-reads (call 0 (replicate 16 (4, 0) ++ ((6, 0) ∷ [])) []) 7 []
+    ∷ header-gives (reading Msg (8 ∷ 4 ∷ 6 ∷ [])) 0 9
+    ∷ lists ((8, 1, 4) ∷ (4, 2, 4) ∷ []) 20 ((4, 2, 4) ∷ (8, 1, 4) ∷ [])
+    ∷ lists ((8, 1, 2) ∷ (4, 2, 4) ∷ (8, 3, 3) ∷ []) 24 ((4, 2, 4) ∷ (8, 1, 2) ∷ (8, 3, 3) ∷ [])
+    ∷ lists ((8, 3, 1) ∷ (8, 1, 1) ∷ (8, 2, 1) ∷ []) 16 ((8, 3, 1) ∷ (8, 1, 1) ∷ (8, 2, 1) ∷ [])
+    ∷ lists ((8, 3, 1) ∷ (8, 1, 1) ∷ (4, 4, 0) ∷ (8, 2, 1) ∷ (4, 0, 0) ∷ []) 16 ((4, 4, 0) ∷ (4, 0, 0) ∷ (8, 3, 1) ∷ (8, 1, 1) ∷ (8, 2, 1) ∷ [])
+    ∷ start-words (handleCall 1 ((8, 1, 5) ∷ (0, 2, 4) ∷ (4, 3, 0) ∷ (0, 4, 8) ∷ []) []) 20 (listWords 0 ((0, 2, 4) ∷ (0, 4, 8) ∷ (4, 3, 0) ∷ (8, 1, 5) ∷ (0, 0, 0) ∷ []))
+    ∷ start-words (handleCall 0 falling16 (replicate 64 1)) 64 (listWords 0 rising16)
+    ∷ start-words (handleCall 0 rising16 (replicate 64 1)) 64 (listWords 0 rising16)
+    ∷ assembles (call 0 ((16, 4) ∷ (8, 5) ∷ []) twelve) 24 (piece five ∷ piece four ∷ asking ∷ []) (gives 0 [] ∷ gives 0 [] ∷ gives 0 c7At16 ∷ [])
+    ∷ assembles (call 0 ((20, 4) ∷ (8, 5) ∷ []) twelve) 24 (piece (five ++ four) ∷ asking ∷ []) (gives 0 [] ∷ gives 0 c7At20 ∷ [])
+    ∷ assembles (call 1 ((8, 5) ∷ (0, 12) ∷ []) []) 20 (piece twelve ∷ asking ∷ piece five ∷ asking ∷ []) (gives 0 [] ∷ gives 19 [] ∷ gives 0 [] ∷ gives 0 c6Message ∷ [])
+    ∷ assembles (call 0 ((8, 2) ∷ (16, 4) ∷ (8, 3) ∷ []) twelve) 24 (piece (five ++ four) ∷ asking ∷ []) (gives 0 [] ∷ gives 0 c7At16 ∷ [])
+    ∷ starts (call 0 ((12, 4) ∷ (8, 5) ∷ []) twelve) 24 14
+    ∷ starts (call 0 ((24, 4) ∷ (8, 5) ∷ []) twelve) 24 14
+    ∷ starts (call 0 ((8, 5) ∷ (0, 4) ∷ []) twelve) 24 12
+    ∷ starts (call 1 ((8, 5) ∷ (4, 4) ∷ []) []) 24 12
+    ∷ starts (call 1 ((8, 5) ∷ (0, 10) ∷ []) []) 24 13
+    ∷ starts (call 0 ((20, 4) ∷ (8, 5) ∷ []) twelve) 23 16
+    ∷ piece-gives (positioned 8 16) 24 0 0
+    ∷ piece-gives (positioned 8 8) 24 0 0
+    ∷ piece-gives (positioned 16 8) 24 0 17
+    ∷ message-gives (positioned 16 8) 24 17
+    ∷ piece-gives (positioned 8 18) 24 0 17
+    ∷ message-gives (positioned 8 18) 24 17
+    ∷ piece-gives (positioned 6 16) 24 0 17
+    ∷ message-gives (positioned 6 16) 24 17
+    ∷ piece-gives (set (started (call 0 ((8, 5) ∷ []) twelve) 20) 6 6) 20 0 0
+    ∷ message-gives (set (started (call 0 ((8, 5) ∷ []) twelve) 20) 6 6) 20 19
+    ∷ piece-gives (set (started (call 1 (replicate 16 (0, 0)) []) 0) 102 17) 0 0 17
+    ∷ piece-gives (set (set (positioned 8 16) 96 14) 98 28) 28 0 17
+    ∷ piece-gives (set (set (positioned 8 16) 96 1048576) 98 2000000) 2000000 0 17
+    ∷ piece-gives (set (positioned 8 16) 98 23) 23 0 17
+    ∷ piece-gives (set (positioned 8 16) 100 10) 24 0 17
+    ∷ message-gives (set (positioned 8 16) 100 10) 24 17
+    ∷ nomsgTakes ((8, 5) ∷ (0, 12) ∷ []) 20 (17 ∷ []) (3 ∷ [])
+    ∷ msgTakes ((8, 2) ∷ (4, 4) ∷ (8, 3) ∷ []) 24 (9 ∷ []) (3 ∷ [])
+    ∷ replied c2 8 32 (words (0x2a ∷ 1 ∷ 0x20 ∷ 4 ∷ 2 ∷ []))
     ∷ []

@@ -26,7 +26,7 @@ use Rattle.header.specs.Internal.Counts.{limitsKept}
 use Rattle.writer.specs.Internal.Parts.{partsBytesIn}
 use Rattle.header.proofs.Limits.{FewIn, few-in-words, counts-long}
 use Rattle.header.proofs.Bytes.{reads-length, writes-length, replies-length, fixed-length}
-use Rattle.chunk_lists.proofs.Positions.{positions-zero}
+use Rattle.writer.proofs.Entries.{entries-zero}
 
 -- How many bytes the three parts take within their limits.
 abbrev pub partsSize : List ℕ → Bool → ℕ
@@ -87,7 +87,7 @@ accepted h room e =
     let n = length (headerBytes (contentOf h)) in
     let a = check-passed (bareIfError (h .kind) (h .reads .count) (h .writes .chunks) (h .reply .present)) 12 _ (omega arith) e .1 in
     let b = check-passed (withinLimits (h .reads .count) (h .writes .chunks) (h .writes .counts) (h .reply .present) (h .reply .count)) 7 _ (omega arith) a in
-    let d = check-passed (leb n 1024) 21 _ (omega arith) (positions-zero 0 (contentOf h .reads) _ (b .1)) .1 in
+    let d = check-passed (leb n 1024) 21 _ (omega arith) (entries-zero (contentOf h .reads) _ (b .1)) .1 in
     (b .0, leb-true n room (check-passed (leb n room) 16 0 (omega arith) d .0))
 
 -- A refused writing has written 0 bytes.

@@ -11,10 +11,9 @@ use lib.ListN.{length, take}
 use lib.Seq.{length-take-le}
 use lib.Dec.{leb, eqb}
 use Rattle.wire.specs.Wire.{joined, wordBytes}
-use Rattle.chunk_lists.specs.Lists.{positionsNumber}
 use Rattle.header.specs.Content.{Content, replyChunkOf, headerOf, runs, replyOf, contentOf}
 use Rattle.header.specs.Bytes.{countedBytes, chunkBytes, readListBytes, writeListBytes, replyBytes, errorBytes, restBytes, fixedBytes, headerBytes}
-use Rattle.writer.specs.Write.{bareIfError, writeNumber}
+use Rattle.writer.specs.Write.{bareIfError, entriesNumber, writeNumber}
 use Rattle.header.specs.Limits.{total, withinLimits, keepsLimits}
 use Rattle.header.proofs.Limits.{few-counts}
 use Rattle.wire.specs.Fits.{All, SegmentFits, ReadSegmentFits}
@@ -30,7 +29,7 @@ use Rattle.wire.proofs.WordBytes.{length-word, length-read-segment}
 use Rattle.reader.proofs.ReadBack.{read-entry-first, chunk-first, length-segments}
 use Rattle.header.proofs.Contents.{all-take, all-runs, lengths-runs, contentOf-headerOf, counts-held, Within, chunks-same}
 use Rattle.answers.proofs.Checks.{both-hold, check-passed}
-use Rattle.chunk_lists.proofs.Positions.{positions-zero}
+use Rattle.writer.proofs.Entries.{entries-zero, entries-aligned, aligned-entries}
 
 -- What every check asks of a header that is written into `room` bytes.
 pub record Passed (h : Header) (room : ℕ) : Type 0 where
@@ -39,7 +38,7 @@ pub record Passed (h : Header) (room : ℕ) : Type 0 where
   pub chunks : h .writes .chunks ≤ 4
   pub sum : total (take (h .writes .chunks) (h .writes .counts)) ≤ 16
   pub reply : h .reply .count ≤ cond (h .reply .present) 16 0
-  pub rising : positionsNumber 0 (contentOf h .reads) 0 ≡ 0
+  pub entries : entriesNumber (contentOf h .reads) 0 ≡ 0
   pub short : length (headerBytes (contentOf h)) ≤ 1024
   pub fits : length (headerBytes (contentOf h)) ≤ room
 
@@ -50,7 +49,7 @@ write-passed h room e =
     let a = check-passed (bareIfError (h .kind) (h .reads .count) (h .writes .chunks) (h .reply .present)) 12 _ (omega arith) e in
     let k = check-passed (keepsLimits h) 7 _ (omega arith) (a .1) in
     let few = few-counts _ _ _ _ _ (k .0) in
-    let next = positions-zero 0 (contentOf h .reads) _ (k .1) in
+    let next = entries-zero (contentOf h .reads) _ (k .1) in
     let g = check-passed (leb (length (headerBytes (contentOf h))) 1024) 21 _ (omega arith) next in
     let i = check-passed (leb (length (headerBytes (contentOf h))) room) 16 _ (omega arith) (g .1) in
     record {
@@ -59,7 +58,7 @@ write-passed h room e =
       chunks = few .chunks;
       sum = few .segments;
       reply = few .there;
-      rising = subst (λ (n : ℕ). positionsNumber 0 (contentOf h .reads) n ≡ 0) next (k .1);
+      entries = subst (λ (n : ℕ). entriesNumber (contentOf h .reads) n ≡ 0) next (k .1);
       short = leb-true _ _ (g .0);
       fits = leb-true _ _ (i .0);
     }
@@ -68,7 +67,7 @@ write-passed h room e =
 pub passed-write : (h : Header) (room : ℕ) → Passed h room → writeNumber h room ≡ 0
 unfolding writeNumber withinLimits
 passed-write h room p =
-    simp (p .bare, le-leb _ _ (p .reads), le-leb _ _ (p .chunks), le-leb _ _ (p .sum), le-leb _ _ (p .reply), le-leb _ _ (p .short), le-leb _ _ (p .fits)) (p .rising)
+    simp (p .bare, le-leb _ _ (p .reads), le-leb _ _ (p .chunks), le-leb _ _ (p .sum), le-leb _ _ (p .reply), le-leb _ _ (p .short), le-leb _ _ (p .fits)) (p .entries)
 
 -- How long a read list is.
 length-read-list : (l : List ReadSegment) (r : List ℕ) → length (readListBytes l ++ r) ≡ length l * 24 + 4 + length r
@@ -156,7 +155,7 @@ content-allowed h room r p =
       credit = r .credit;
       reads = all-take ReadSegmentFits (h .reads .count) (h .reads .segments) (r .reads-segments);
       reads-limit = simp (length-take-le (h .reads .count) (h .reads .segments) (w .reads)) (p .reads);
-      rising = p .rising;
+      aligned = entries-aligned (contentOf h .reads) (p .entries);
       writes = all-runs SegmentFits (take (h .writes .chunks) (h .writes .counts)) (h .writes .segments) (r .writes-segments);
       chunks-limit = simp (chunks-same h w) (p .chunks);
       writes-limit = simp (lengths-runs (take (h .writes .chunks) (h .writes .counts)) (h .writes .segments) (w .sum)) (p .sum);
@@ -188,7 +187,7 @@ allowed-passed c room a h =
       chunks = a .chunks-limit;
       sum = simp (counts-held (c .writes)) (a .writes-limit);
       reply = reply-limit (c .reply) (a .reply);
-      rising = subst (λ (d : Content). positionsNumber 0 (d .reads) 0 ≡ 0) (sym same) (a .rising);
+      entries = subst (λ (d : Content). entriesNumber (d .reads) 0 ≡ 0) (sym same) (aligned-entries (c .reads) (a .aligned));
       short = subst (λ (d : Content). length (headerBytes d) ≤ 1024) (sym same) most;
       fits = subst (λ (d : Content). length (headerBytes d) ≤ room) (sym same) h;
     }

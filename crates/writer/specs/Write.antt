@@ -1,13 +1,14 @@
--- Writing a header (document 01, "The numbers and their order").
+-- Writing a header (document 01, "The numbers and their order"; document 02, order 3).
 use Prim.Native.Nat.{ℕ}
 use mathlib.Core.Bool.{Bool, true, not, _&&_}
-use mathlib.Core.List.{List}
+use mathlib.Core.List.{List, [], _∷_}
 use mathlib.Core.Option.{Option, none, some}
 use lib.ListN.{length}
 use lib.Dec.{leb, eqb}
 use Rattle.answers.specs.Answers.{check, roomNumber, writerAnswer, writerBuffer}
 use Rattle.answers.specs.declared.WriteAnswer.{WriteAnswer}
-use Rattle.chunk_lists.specs.Lists.{positionsNumber}
+use Rattle.wire.specs.declared.ReadSegment.{ReadSegment}
+use Rattle.chunk_lists.specs.Lists.{isAligned}
 use Rattle.header.specs.Content.{contentOf}
 use Rattle.header.specs.declared.Kind.{Kind}
 use Rattle.header.specs.declared.Kind.the-variants.{Msg, Nomsg, Error}
@@ -21,12 +22,17 @@ bareIfError Msg reads chunks present = true
 bareIfError Nomsg reads chunks present = true
 bareIfError (Error e) reads chunks present = eqb reads 0 && (eqb chunks 0 && not present)
 
--- "Writing a header checks 12 .., 7 .., then entry by entry 9 and 8, then 21, 16.", into `room` bytes. (No header within the limits is as long as 21 asks.)
+-- "then entry by entry 9", as mended by order 3: "8 is never given again". And then what `next` says.
+unfoldable pub entriesNumber : List ReadSegment → ℕ → ℕ
+entriesNumber [] next = next
+entriesNumber (x ∷ xs) next = check (isAligned (x .position)) 9 (entriesNumber xs next)
+
+-- "Writing a header checks 12 .., 7 .., then entry by entry 9 .., then 21, 16.", so mended, into `room` bytes. (No header within the limits is as long as 21 asks.)
 unfoldable pub writeNumber : Header → ℕ → ℕ
 writeNumber h room =
     check (bareIfError (h .kind) (h .reads .count) (h .writes .chunks) (h .reply .present)) 12
     (check (keepsLimits h) 7
-    (positionsNumber 0 (contentOf h .reads)
+    (entriesNumber (contentOf h .reads)
     (check (leb (length (headerBytes (contentOf h))) 1024) 21
     (roomNumber (headerBytes (contentOf h)) room))))
 

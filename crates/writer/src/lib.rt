@@ -16,7 +16,7 @@ ghost use Rattle.chunk_lists.specs.Words.{readsIn, segmentsIn};
 ghost use Rattle.header.specs.Content.{contentOf, runs, replyOf};
 ghost use Rattle.header.specs.Words.{xidAt, creditAt, headerAs, headerIn, countsIn};
 ghost use Rattle.header.specs.Bytes.{entryBytes, chunkBytes, readListBytes, writeListBytes, replyBytes, errorBytes, fixedBytes, procedureOf, restBytes, headerBytes};
-ghost use Rattle.writer.specs.Write.{bareIfError, writeNumber, writeAnswer, writeBuffer, writeWordsAnswer, writeWordsBuffer};
+ghost use Rattle.writer.specs.Write.{bareIfError, entriesNumber, writeNumber, writeAnswer, writeBuffer, writeWordsAnswer, writeWordsBuffer};
 ghost use Rattle.header.specs.Limits.{total};
 ghost use Rattle.header.specs.Internal.Counts.{limitsKept};
 ghost use Rattle.writer.specs.Internal.Parts.{partsBytesIn};
@@ -109,6 +109,20 @@ fn header_length(
     error_length(e)
 }
 
+// The number of the first read entry at fault, or 0.
+fn check_entries(words: &[u32], n: usize) -> u32
+    requires { ⌜ (n ≤ 16) × (96 ≤ length (now words)) ⌝ }
+    ensures { λ r. ⌜ r ≡ entriesNumber (take n (readsIn (now (words .entry)))) 0 ⌝ }
+{
+    for k in 0..n {
+        let x = chunk_lists::read_segment_of(words, k);
+        if x.position % chunk_lists::POSITION_UNIT != 0 {
+            return answers::POSITION_UNALIGNED;
+        }
+    }
+    0
+}
+
 // The number that writing a header into `room` bytes gives.
 fn write_number(words: &[u32], kind: Kind, present: bool, room: usize) -> u32
     requires { ⌜ length (now words) ≡ 238 ⌝ }
@@ -124,7 +138,7 @@ fn write_number(words: &[u32], kind: Kind, present: bool, room: usize) -> u32
     if !header::within_limits(reads, chunks, segments, present, replies) {
         return answers::OVER_LIMIT;
     }
-    let fault = chunk_lists::check_positions(words, reads);
+    let fault = check_entries(words, reads);
     if fault != 0 {
         return fault;
     }

@@ -31,22 +31,22 @@ returns-3 c = unfit-checked _ _ _ (c .unfit3 .ensures) (faulty-list (state (c .b
 returns-4 : tie.Need-returns-4
 returns-4 c =
     let f = fine (c .before .before .before .before .before .before) in
-    unfit-checked _ _ _ (c .unfit4 .ensures) (misplaced (state (c .before .before .before .before .before .before .before .before .before .before .before .before .before .before .before)) (c .before .before .before .before .before .before .before .before .before .before .before .before .before .before .before .args .room) (c .before .before .before .before .before .before .before .before .before .before .before .before .before .if1 .left) (f .rise) (c .before .before .before .before .before .before .before .before .before .before .before .if2 .left) _ (f .summed) (c .before .before .before .check-room .result) (c .before .before .before .check-room .ensures _ (f .stood)) _ (c .before .enum-told2 .given .1))
+    unfit-checked _ _ _ (c .unfit4 .ensures) (misplaced (state (c .before .before .before .before .before .before .before .before .before .before .before .before .before .before .before)) (c .before .before .before .before .before .before .before .before .before .before .before .before .before .before .before .args .room) (c .before .before .before .before .before .before .before .before .before .before .before .before .before .if1 .left) (f .rise) (f .aligned) (c .before .before .before .before .before .before .before .before .before .before .before .if2 .left) _ (f .summed) (c .before .before .before .check-room .result) (c .before .before .before .check-room .ensures _ (f .stood)) _ (c .before .enum-told2 .given .1))
 
 returns-5 : tie.Need-returns-5
 returns-5 c =
     let f = fine (c .before .before .before .before .before .before .before .before .before) in
-    unfit-checked _ _ _ (c .unfit5 .ensures) (other-base (state (c .before .before .before .before .before .before .before .before .before .before .before .before .before .before .before .before .before .before)) (c .before .before .before .before .before .before .before .before .before .before .before .before .before .before .before .before .before .before .args .room) (c .before .before .before .before .before .before .before .before .before .before .before .before .before .before .before .before .if1 .left) (f .rise) (c .before .before .before .before .before .before .before .before .before .before .before .before .before .before .if2 .left) _ (f .summed) (c .before .before .before .before .before .before .check-room .result) (c .before .before .before .before .before .before .check-room .ensures _ (f .stood)) _ (c .before .before .before .before .measured .given .1) (c .before .before .base-length .result) (c .before .before .base-length .ensures) (c .before .if3 .taken))
+    unfit-checked _ _ _ (c .unfit5 .ensures) (other-base (state (c .before .before .before .before .before .before .before .before .before .before .before .before .before .before .before .before .before .before)) (c .before .before .before .before .before .before .before .before .before .before .before .before .before .before .before .before .before .before .args .room) (c .before .before .before .before .before .before .before .before .before .before .before .before .before .before .before .before .if1 .left) (f .rise) (f .aligned) (c .before .before .before .before .before .before .before .before .before .before .before .before .before .before .if2 .left) _ (f .summed) (c .before .before .before .before .before .before .check-room .result) (c .before .before .before .before .before .before .check-room .ensures _ (f .stood)) _ (c .before .before .before .before .measured .given .1) (c .before .before .base-length .result) (c .before .before .base-length .ensures) (c .before .if3 .taken))
 
 returns-6 : tie.Need-returns-6
 returns-6 c =
     let f = fine (c .before .before .before .before .before .before .before .before .before .before .before .before) in
-    unfit-checked _ _ _ (c .unfit6 .ensures) (over-taken (state (c .before .before .before .before .before .before .before .before .before .before .before .before .before .before .before .before .before .before .before .before .before)) (c .before .before .before .before .before .before .before .before .before .before .before .before .before .before .before .before .before .before .before .before .before .args .room) (c .before .before .before .before .before .before .before .before .before .before .before .before .before .before .before .before .before .before .before .if1 .left) (f .rise) (c .before .before .before .before .before .before .before .before .before .before .before .before .before .before .before .before .before .if2 .left) _ (f .summed) (c .before .before .before .before .before .before .before .before .before .check-room .result) (c .before .before .before .before .before .before .before .before .before .check-room .ensures _ (f .stood)) _ (c .before .before .before .before .before .before .before .measured .given .1) (c .before .before .before .before .before .base-length .result) (c .before .before .before .before .before .base-length .ensures) (c .before .before .before .before .if3 .left) (c .before .if4 .taken))
+    unfit-checked _ _ _ (c .unfit6 .ensures) (over-taken (state (c .before .before .before .before .before .before .before .before .before .before .before .before .before .before .before .before .before .before .before .before .before)) (c .before .before .before .before .before .before .before .before .before .before .before .before .before .before .before .before .before .before .before .before .before .args .room) (c .before .before .before .before .before .before .before .before .before .before .before .before .before .before .before .before .before .before .before .if1 .left) (f .rise) (f .aligned) (c .before .before .before .before .before .before .before .before .before .before .before .before .before .before .before .before .before .if2 .left) _ (f .summed) (c .before .before .before .before .before .before .before .before .before .check-room .result) (c .before .before .before .before .before .before .before .before .before .check-room .ensures _ (f .stood)) _ (c .before .before .before .before .before .before .before .measured .given .1) (c .before .before .before .before .before .base-length .result) (c .before .before .before .before .before .base-length .ensures) (c .before .before .before .before .if3 .left) (c .before .if4 .taken))
 
 returns-7 : tie.Need-returns-7
 returns-7 c =
     let f = fine (c .before .before .before .before .before .before .before .before .before .before .before) in
-    fit-checked (state (c .before .before .before .before .before .before .before .before .before .before .before .before .before .before .before .before .before .before .before .before)) (c .before .before .before .before .before .before .before .before .before .before .before .before .before .before .before .before .before .before .before .before .args .room) (c .before .before .before .before .before .before .before .before .before .before .before .before .before .before .before .before .before .before .if1 .left) (f .rise) (c .before .before .before .before .before .before .before .before .before .before .before .before .before .before .before .before .if2 .left) _ (f .summed) (c .before .before .before .before .before .before .before .before .check-room .result) (c .before .before .before .before .before .before .before .before .check-room .ensures _ (f .stood)) _ (c .before .before .before .before .before .before .measured .given .1) (c .before .before .before .before .base-length .result) (c .before .before .before .before .base-length .ensures) (c .before .before .before .if3 .left) _ (c .if4 .left) refl
+    fit-checked (state (c .before .before .before .before .before .before .before .before .before .before .before .before .before .before .before .before .before .before .before .before)) (c .before .before .before .before .before .before .before .before .before .before .before .before .before .before .before .before .before .before .before .before .args .room) (c .before .before .before .before .before .before .before .before .before .before .before .before .before .before .before .before .before .before .if1 .left) (f .rise) (f .aligned) (c .before .before .before .before .before .before .before .before .before .before .before .before .before .before .before .before .if2 .left) _ (f .summed) (c .before .before .before .before .before .before .before .before .check-room .result) (c .before .before .before .before .before .before .before .before .check-room .ensures _ (f .stood)) _ (c .before .before .before .before .before .before .measured .given .1) (c .before .before .before .before .base-length .result) (c .before .before .before .before .base-length .ensures) (c .before .before .before .if3 .left) _ (c .if4 .left) refl
 
 pub check-state-spec : {M : Type 1} → statement M
 check-state-spec =

@@ -22,6 +22,6 @@ pub +check-read-entries-spec : {M : Type 1} → statement M
     (and 1 kinds.ps (is 1 kinds.ps room t) reads.Pre) reads.Post
     (λ c κs. search needs) (λ c. search needs) (λ c. search needs) (λ c. search needs) (λ c. search needs)
     (λ c. search needs) (λ c. search needs) (λ c. search read-long) (λ c. search read-long) (λ c. search needs) (λ c. search read-room)
-    (λ c κs. let more = read-room _ _ _ _ (c .before .before .before .before .check-read-step .ensures) _ (c .before .before .step2 .given .1) in search needs)
+    (λ c κs. let more = read-room _ _ _ (c .before .before .before .check-read-step .ensures) (c .before .enum-told2 .given .1) in search needs)
     (λ c. search read-end) (λ c. search read-refused)
     (λ c. c .check-read-entries .ensures ∙ rw part-from (search read-rest))

@@ -1,5 +1,4 @@
 -- `chunk_lists::check_read_entry` meets its contract.
-use Rattle.wire.specs.Wire.{readSegmentAt}
 use borrow.Author.Tests.{le-leb, lt-leb, eq-eqb, ne-eqb}
 use Rattle.chunk_lists.specs.Lists.{readEntry}
 use borrow.Author.Needs.{needs}
@@ -28,13 +27,9 @@ returns-2 c = simp (le-leb _ _ (c .before .before .before .if1 .left), ← (c .b
 
 returns-3 : tie.Need-returns-3
 unfolding readEntry
-returns-3 c = simp (le-leb _ _ (c .before .before .before .before .if1 .left), ← (c .before .before .before .word-at .ensures), aligned _ _ (c .before .before .rounded .ensures) (c .before .if2 .left), lt-leb _ _ (c .if3 .taken))
-
-returns-4 : tie.Need-returns-4
-unfolding readEntry readSegmentAt
-returns-4 c = simp (le-leb _ _ (c .before .before .before .before .if1 .left), ← (c .before .before .before .word-at .ensures), aligned _ _ (c .before .before .rounded .ensures) (c .before .if2 .left), le-leb _ _ (c .if3 .left))
+returns-3 c = simp (le-leb _ _ (c .before .before .before .if1 .left), ← (c .before .before .word-at .ensures), aligned _ _ (c .before .rounded .ensures) (c .if2 .left))
 
 pub check-read-entry-spec : {M : Type 1} → statement M
 check-read-entry-spec =
     tie.close
-    (tie.spec returns (λ c κs. search needs) (λ c κs. search needs) (λ c. search needs) returns-2 returns-3 returns-4)
+    (tie.spec returns (λ c κs. search needs) (λ c κs. search needs) (λ c. search needs) returns-2 returns-3)

@@ -25,10 +25,10 @@ isEnd (marker.Refused n) = false
 isEnd marker.End = true
 isEnd marker.Entry = false
 
--- An entry of the read list: its position, or the number.
+-- An entry of the read list, or the number.
 abbrev pub entryStep : Parsed ReadSegment → ReadStep
 entryStep (refused n) = read.Refused n
-entryStep (done x t) = read.Entry (x .position)
+entryStep (done x t) = read.Entry
 
 -- What stands at the front of a list of at most `room` entries: a fault, its end, or an entry.
 abbrev pub marked : {A : Type 0} → (ℕ → A) → A → Marker → ℕ → A → A
@@ -36,8 +36,8 @@ marked fault end (marker.Refused n) room entry = fault n
 marked fault end marker.End room entry = end
 marked fault end marker.Entry room entry = cond (eqb room 0) (fault 7) entry
 
-unfoldable pub readStep : ℕ → ℕ → List ℕ → ReadStep
-readStep room last s = marked read.Refused read.End (markerOf s) room (entryStep (readEntry last (drop 4 s)))
+unfoldable pub readStep : ℕ → List ℕ → ReadStep
+readStep room s = marked read.Refused read.End (markerOf s) room (entryStep (readEntry (drop 4 s)))
 
 -- A counted run of segments: how many, or the number.
 abbrev pub countStep : Parsed (List Segment) → ChunkStep

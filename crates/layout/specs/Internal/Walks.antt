@@ -4,7 +4,8 @@ use mathlib.Core.Bool.{Bool, true, cond, _&&_}
 use mathlib.Core.List.{List, [], _∷_}
 use lib.Dec.{eqb}
 use Rattle.wire.specs.declared.ReadSegment.{ReadSegment}
-use Rattle.chunk_lists.specs.Lists.{positionsNumber}
+use Rattle.chunk_lists.specs.Lists.{allAligned}
+use Rattle.read_order.specs.ReadOrder.{isSorted}
 use Rattle.header.specs.declared.Kind.{Kind}
 use Rattle.layout.specs.Layout.{run, anyAtZero, zeroLength, otherChunks, roundedTotal, stands, messageLength, placeNumber}
 use Rattle.layout.specs.declared.Run.{Run}
@@ -55,10 +56,10 @@ pub record Near (x : ReadSegment) : Type 0 where
 abbrev pub chunkCheck : ℕ → List Run → ChunkCheck
 chunkCheck base cs = cond (stands base 0 0 cs) (Stands (roundedTotal cs)) Overlaps
 
--- The positions are in order and the chunks stand, with the sums of both.
+-- The list is sorted, its positions are multiples of 4 and its chunks stand: with the sums of its segments and of its chunks.
 unfoldable pub readsCheck : ℕ → List ReadSegment → ReadsCheck
 readsCheck base reads =
-    cond (eqb (positionsNumber 0 reads 0) 0 && stands base 0 0 (otherChunks reads)) (Fine (record { sums = sumsOf reads; chunks = roundedTotal (otherChunks reads) })) Faulty
+    cond (isSorted reads && (allAligned reads && stands base 0 0 (otherChunks reads))) (Fine (record { sums = sumsOf reads; chunks = roundedTotal (otherChunks reads) })) Faulty
 
 -- The length of the message, or the number of the check that fails.
 unfoldable pub layoutCheck : Kind → ℕ → Bool → List Run → ℕ → LayoutCheck

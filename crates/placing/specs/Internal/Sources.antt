@@ -6,7 +6,7 @@ use mathlib.Core.List.{List, _++_}
 use lib.ListN.{take, drop}
 use lib.Dec.{eqb}
 use Rattle.wire.specs.declared.ReadSegment.{ReadSegment}
-use Rattle.chunk_lists.specs.Lists.{positionsNumber}
+use Rattle.read_order.specs.ReadOrder.{isSorted}
 use Rattle.layout.specs.Places.{from}
 use Rattle.layout.specs.Layout.{anyAtZero, zeroLength, otherChunks, stands, places, basePlaces}
 use Rattle.layout.specs.declared.Run.{Run}
@@ -31,7 +31,7 @@ pub record PartWithin (base room position k size : ℕ) : Type 0 where
 
 -- A read list that has passed the checks of a start over a base.
 pub record LayoutChecked (base : ℕ) (reads : List ReadSegment) : Type 0 where
-  pub rise : positionsNumber 0 reads 0 ≡ 0
+  pub rise : isSorted reads ≡ true
   pub stand : stands base 0 0 (otherChunks reads) ≡ true
   pub small : base ≤ 1048576
 

@@ -10,16 +10,15 @@ use lib.ListN.{take, length, getD}
 use borrow.Author.Tests.{le-leb, lt-leb, not-true, not-false}
 use borrow.Author.Needs.{needs}
 use Rattle.answers.specs.Answers.{check}
-use Rattle.chunk_lists.specs.Lists.{positionsNumber}
 use Rattle.chunk_lists.specs.Words.{readsIn}
 use Rattle.header.specs.Content.{contentOf}
 use Rattle.header.specs.Words.{readCountAt, headerAs, countsIn}
 use Rattle.header.specs.declared.Header.{Header}
-use Rattle.writer.specs.Write.{writeNumber}
+use Rattle.writer.specs.Write.{entriesNumber, writeNumber}
 use Rattle.header.specs.Internal.Counts.{limitsKept}
 use Rattle.header.specs.Bytes.{headerBytes}
 use Rattle.writer.proofs.HeaderWriting.{Passed, passed, sized}
-use Rattle.chunk_lists.proofs.Positions.{positions-fault, positions-fine}
+use Rattle.writer.proofs.Entries.{entries-fault, entries-fine}
 use Rattle.writer.proofs.write_number.Statement.{statement}
 use Rattle.writer.proofs.write_number.Tie as tie
 
@@ -40,16 +39,16 @@ within c = sym (c .before .within-limits .ensures (countsIn (lent c)) (c .before
 known : (c : tie.Else2) → Passed (lent c) (entry c .args .present)
 known c = passed (lent c) (entry c .args .present) (entry c .pre) (within c)
 
--- The number then, and the number behind the check of the positions.
-then-positions : (c : tie.Else2) → let n = length (headerBytes (contentOf (held c))) in writeNumber (held c) (entry c .args .room) ≡ positionsNumber 0 (take (getD (lent c) readCountAt 0) (readsIn (lent c))) (check (leb n 1024) 21 (check (leb n (entry c .args .room)) 16 0))
+-- The number then, and the number behind the check of the read entries.
+then-entries : (c : tie.Else2) → let n = length (headerBytes (contentOf (held c))) in writeNumber (held c) (entry c .args .room) ≡ entriesNumber (take (getD (lent c) readCountAt 0) (readsIn (lent c))) (check (leb n 1024) 21 (check (leb n (entry c .args .room)) 16 0))
 unfolding writeNumber contentOf
-then-positions c = simp (← (c .before .before .before .before .bare-if-error .ensures), not-false (c .before .before .before .before .bare-if-error .result) (c .before .before .before .if1 .left), within c)
+then-entries c = simp (← (c .before .before .before .before .bare-if-error .ensures), not-false (c .before .before .before .before .bare-if-error .result) (c .before .before .before .if1 .left), within c)
 
 then-length : (c : tie.After-header-length) → let n = c .header-length .result in writeNumber (held (c .before .before .before)) (entry (c .before .before .before) .args .room) ≡ check (leb n 1024) 21 (check (leb n (entry (c .before .before .before) .args .room)) 16 0)
 then-length c =
     let limits = c .before .before .before in
     let size = sized (lent limits) (entry limits .args .kind) (entry limits .args .present) (c .header-length .result) (known limits) (λ parts e. c .header-length .ensures parts (rw (limits .before .before .total-count .ensures) e)) in
-    then-positions limits ∙ simp (positions-fine 0 _ (sym (c .before .before .check-positions .ensures) ∙ c .before .if3 .left), size)
+    then-entries limits ∙ simp (entries-fine _ (sym (c .before .before .check-entries .ensures) ∙ c .before .if3 .left), size)
 
 cast-reads : tie.Need-cast-reads
 cast-reads c = let small = c .shared-slice-known2 .given 228 in search needs
@@ -70,11 +69,11 @@ returns-2 c =
     let limits = c .before .within-limits .ensures (countsIn (now (c .before .before .before .before .before .before .before .before .before .args .words))) (c .before .before .total-count .ensures) in
     simp (← (c .before .before .before .before .bare-if-error .ensures), not-false (c .before .before .before .before .bare-if-error .result) (c .before .before .before .if1 .left), ← limits, not-true (c .before .within-limits .result) (c .if2 .taken))
 
-check-positions-requires : tie.Need-check-positions-requires
-check-positions-requires c κs = let k = known c in (k .few .reads, omega arith)
+check-entries-requires : tie.Need-check-entries-requires
+check-entries-requires c κs = let k = known c in (k .few .reads, omega arith)
 
 returns-3 : tie.Need-returns-3
-returns-3 c = sym (then-positions (c .before .before) ∙ positions-fault 0 _ (λ e. c .if3 .taken (c .before .check-positions .ensures ∙ e)) _ ∙ sym (c .before .check-positions .ensures))
+returns-3 c = sym (then-entries (c .before .before) ∙ entries-fault _ (λ e. c .if3 .taken (c .before .check-entries .ensures ∙ e)) _ ∙ sym (c .before .check-entries .ensures))
 
 header-length-requires : tie.Need-header-length-requires
 header-length-requires c κs = let k = known (c .before .before) in (k .few .reads, k .few .chunks, rw (c .before .before .before .before .total-count .ensures) (k .few .segments), k .few .replies)
@@ -92,5 +91,5 @@ pub write-number-spec : {M : Type 1} → statement M
 write-number-spec =
     tie.close
     (tie.spec (λ c. search needs) cast-reads (λ c. search needs) cast-chunks (λ c. search needs) cast-replies
-    (λ c κs. search needs) returns (λ c κs. search needs) (λ c κs. search needs) returns-2 check-positions-requires
+    (λ c κs. search needs) returns (λ c κs. search needs) (λ c κs. search needs) returns-2 check-entries-requires
     returns-3 header-length-requires returns-4 returns-5 returns-6)

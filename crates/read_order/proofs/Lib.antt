@@ -1,0 +1,4 @@
+pub mod Rising
+pub mod Sorting
+pub mod Passes
+pub mod Places

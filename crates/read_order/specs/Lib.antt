@@ -1,0 +1,3 @@
+pub mod ReadOrder
+pub mod SortedOf
+pub mod Internal

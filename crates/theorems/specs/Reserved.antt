@@ -1,0 +1,36 @@
+-- "8 is never given again and stays reserved." (document 02, order 3)
+use Prim.Native.Nat.{ℕ}
+use mathlib.Core.Path.{_≡_}
+use mathlib.Core.List.{List}
+use mathlib.Core.Option.{Option}
+use Rattle.header.specs.declared.Header.{Header}
+use Rattle.reader.specs.Frame.{readFrame, readAnswer, readNumber}
+use Rattle.writer.specs.Write.{writeAnswer, writeWordsAnswer}
+use Rattle.setup.specs.Setup.{readSetup, writeSetupAnswer, agreement}
+use Rattle.setup.specs.declared.Setup.{Setup}
+use Rattle.c_setup.specs.Words.{writeSetupWordsAnswer, agreeWordsAnswer}
+use Rattle.credit.specs.Credit.{grantAnswer}
+use Rattle.error_reply.specs.Reply.{errorReplyAnswer}
+use Rattle.assembly_state.specs.State.{State}
+use Rattle.assembly_start.specs.Start.{startAnswer}
+use Rattle.assembly.specs.Assembly.{pieceAnswer, messageNumber}
+use Rattle.returned.specs.Returned.{returnedAnswer, returnedWordsNumber}
+
+-- No call with a number gives n: those of the library, and of the exports where they have a definition of their own.
+pub record NeverGiven (n : ℕ) : Type 0 where
+  pub reading : (frame : List ℕ) → readAnswer (readFrame frame) .number ≡ n → ⊥
+  pub reading-words : (frame : List ℕ) → readNumber (readFrame frame) ≡ n → ⊥
+  pub writing : (h : Header) (room : ℕ) → writeAnswer h room .number ≡ n → ⊥
+  pub writing-words : (h : Option Header) (room : ℕ) → writeWordsAnswer h room .number ≡ n → ⊥
+  pub starting : (frame : List ℕ) (room : ℕ) → startAnswer (readFrame frame) room .number ≡ n → ⊥
+  pub taking : (s : State) (room size : ℕ) → pieceAnswer s room size .number ≡ n → ⊥
+  pub asking : (s : State) (room : ℕ) → messageNumber s room ≡ n → ⊥
+  pub reading-setup : (bytes : List ℕ) → readSetup bytes .number ≡ n → ⊥
+  pub writing-setup : (x : Setup) (room : ℕ) → writeSetupAnswer x room .number ≡ n → ⊥
+  pub writing-setup-words : (w : List ℕ) (room : ℕ) → writeSetupWordsAnswer w room .number ≡ n → ⊥
+  pub agreeing : (client server : Setup) → agreement client server .number ≡ n → ⊥
+  pub agreeing-words : (client server : List ℕ) → agreeWordsAnswer client server .number ≡ n → ⊥
+  pub granting : (asked limit : ℕ) → grantAnswer asked limit .number ≡ n → ⊥
+  pub replying : (frame : List ℕ) (number limit room : ℕ) → errorReplyAnswer frame number limit room .number ≡ n → ⊥
+  pub returning : (sent reply : Header) → returnedAnswer sent reply .number ≡ n → ⊥
+  pub returning-words : (sent reply : Option Header) → returnedWordsNumber sent reply ≡ n → ⊥
