@@ -3,6 +3,7 @@
 pub mod assembly;
 pub mod goes;
 pub mod header;
+pub mod order;
 pub mod reply;
 pub mod returned;
 pub mod setup;
@@ -29,6 +30,25 @@ impl Rng {
     }
 }
 
+impl Rng {
+    /// Another order, often that of before turned round, with two exchanged or with one moved; or none.
+    pub fn reorder<T>(&mut self, list: &mut [T]) {
+        if list.is_empty() {
+            return;
+        }
+        let (one, two) = (self.below(list.len()), self.below(list.len()));
+        let between = one.min(two)..=one.max(two);
+        match self.below(8) {
+            0 => {}
+            1 => list.reverse(),
+            2 => list.swap(one, two),
+            3 => list[between].rotate_left(1),
+            4 => list[between].rotate_right(1),
+            _ => (1..list.len()).rev().for_each(|at| list.swap(at, self.below(at + 1))),
+        }
+    }
+}
+
 fn put(frame: &mut [u8], word: usize, value: u32) {
     frame[4 * word..4 * word + 4].copy_from_slice(&value.to_be_bytes());
 }
@@ -44,5 +64,6 @@ pub fn run<C: Calls>(check: &mut Checker<C>, seed: u64, cases: u64) -> Outcome {
     reply::run(check, rng, cases)?;
     assembly::run(check, rng, cases)?;
     goes::run(check, rng, cases)?;
+    order::run(check, rng, cases)?;
     returned::run(check, rng, cases)
 }

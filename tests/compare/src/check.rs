@@ -13,6 +13,7 @@ pub use assembly::Step;
 
 use crate::calls::Calls;
 use crate::rng::Rng;
+use eoswynnor::ffi::ReadSegment;
 use lent::{Buffer, Place};
 use seen::Seen;
 use watched::Watched;
@@ -23,6 +24,19 @@ pub type Outcome = Result<(), String>;
 fn same_number(got: u32, want: u32) -> Outcome {
     if got != want {
         return Err(format!("number: got {got}, want {want}"));
+    }
+    Ok(())
+}
+
+/// The positions and handles of a list, and zeros in the places behind it.
+fn same_list(places: &[ReadSegment], count: u32, want: &[(u32, u32)]) -> Outcome {
+    let (used, unused) = places.split_at(places.len().min(count as usize));
+    let got: Vec<(u32, u32)> = used.iter().map(|entry| (entry.position, entry.target.handle)).collect();
+    if got != want {
+        return Err(format!("positions and handles: got {got:?}, want {want:?}"));
+    }
+    if unused.iter().any(|entry| *entry != ReadSegment::default()) {
+        return Err(format!("behind the list: got {unused:?}, want zeros"));
     }
     Ok(())
 }
@@ -101,5 +115,10 @@ impl<C: Calls> Checker<C> {
     /// What the families should have drawn from the implementation but did not.
     pub fn unseen(&self) -> Vec<String> {
         self.seen.missing()
+    }
+
+    /// What no call may give.
+    pub fn unwanted(&self) -> Vec<String> {
+        self.seen.unwanted()
     }
 }

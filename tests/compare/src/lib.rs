@@ -1,6 +1,6 @@
 //! A second implementation of the calls on headers, setup data, credits and error replies, the
 //! reassembly and what replies say was landed, and the means to compare. Each folder has a file for
-//! each of these subjects; the goes of pieces, a part of the reassembly, have cases and mistakes of
+//! each of these subjects; the goes of pieces and the order of read lists have cases and mistakes of
 //! their own.
 
 pub mod calls;

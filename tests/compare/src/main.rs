@@ -4,7 +4,7 @@
 //! random family), --seed S, --vectors FILE (else what EOS_VECTORS names).
 //! One line for each family, then the numbers, goes and forms seen and the total; the first
 //! difference is printed with its input and ends the run with status 1, as does one of them never
-//! seen.
+//! seen, or a number seen that its call never gives (8 is given by none).
 
 #[cfg(not(library))]
 compile_error!("set EOS_LIB_DIR to the folder that holds libeoswynnor.a");
@@ -46,10 +46,11 @@ fn main() -> ExitCode {
         return ExitCode::FAILURE;
     }
     check.seen.lines().iter().for_each(|line| println!("{line}"));
-    let unseen = check.unseen();
-    if !unseen.is_empty() {
-        println!("NEVER SEEN\n{}", unseen.join("\n"));
-        return ExitCode::FAILURE;
+    for (what, list) in [("NEVER SEEN", check.unseen()), ("MUST NEVER BE GIVEN", check.unwanted())] {
+        if !list.is_empty() {
+            println!("{what}\n{}", list.join("\n"));
+            return ExitCode::FAILURE;
+        }
     }
     println!("{:<26}{:>10}", "total", check.total());
     ExitCode::SUCCESS

@@ -79,7 +79,8 @@ impl Tally {
 #[cfg(test)]
 mod tests {
     use super::*;
-    use crate::cases::assembly::{c8, C6, INLINE, PULLED};
+    use crate::cases::assembly::{c6, c7, c8, c9, Frame, C6, C7_AT_16, C7_AT_20, C7_PULLED, INLINE, PULLED};
+    use crate::rng::Rng;
 
     #[test]
     fn the_tally_counts() {
@@ -91,5 +92,42 @@ mod tests {
         assert_eq!((tally.piece(&pulled), tally.piece(&[]), tally.count()), (18, 0, 9));
         assert_eq!((tally.piece(&pulled[9..]), tally.ask(), tally.count()), (0, (0, C6.to_vec()), 17));
         assert_eq!(tally.buffer(), [&C6[..], &[0x55; 2]].concat());
+    }
+    /// C6 to C9, and C7 with its segments exchanged on the wire.
+    #[test]
+    fn worked_examples_in_any_order() {
+        let whole = [&INLINE[..], &PULLED].concat();
+        let cases: [(Frame, &[u8], &[u8]); 5] = [
+            (c6(), &PULLED, &C6),
+            (c7(16), &C7_PULLED, &C7_AT_16),
+            (c7(20), &C7_PULLED, &C7_AT_20),
+            (c8(), &whole, &C6),
+            (c9(), &PULLED, &C6),
+        ];
+        for (frame, pulled, message) in cases {
+            for frame in [frame.falling(), frame] {
+                let mut tally = Tally::new(&frame.bytes(), &[0x55; 30]);
+                let (one, two) = pulled.split_at(3);
+                assert_eq!((tally.piece(one), tally.piece(two)), (0, 0));
+                assert_eq!(tally.ask(), (0, message.to_vec()));
+            }
+        }
+    }
+
+    /// Nothing of it hangs on the order of the wire, nor on where segments of one position are cut.
+    #[test]
+    fn the_tally_sees_neither_order_nor_cut() {
+        let rng = &mut Rng(11);
+        for at in 0..2_000 {
+            let frame = rng.call([Kind::Msg, Kind::Nomsg][at % 2]);
+            let (before, bytes) = (rng.noise(frame.length() + 3), rng.noise(frame.pulled()));
+            let wire = rng.wire(&frame);
+            let [mut one, mut two] =
+                [&frame, &rng.cut(&wire)].map(|frame| Tally::new(&frame.bytes(), &before));
+            for part in [&bytes[..bytes.len() / 2], &bytes[bytes.len() / 2..]] {
+                assert_eq!((one.piece(part), two.piece(part)), (0, 0));
+                assert_eq!((one.ask(), one.count(), one.buffer()), (two.ask(), two.count(), two.buffer()));
+            }
+        }
     }
 }

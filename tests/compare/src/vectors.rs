@@ -4,6 +4,7 @@ use crate::calls::Calls;
 use crate::check::{hex, Checker, Outcome};
 use crate::convert::flatten;
 use crate::reference::header::{encode, read, Fault, Header, Kind, ReadSegment, Reply, Segment};
+use crate::rng::Rng;
 use std::collections::BTreeMap;
 
 /// What stands between the outer brackets, parted at the commas of that depth.
@@ -75,8 +76,23 @@ pub fn load(file: &str) -> Result<Vec<(Vec<u8>, Header)>, String> {
     text.lines().map(|line| vector(line.trim()).ok_or(format!("vectors {file}: {line}"))).collect()
 }
 
-/// The reference first against the fields, then the implementation against the reference.
+/// The same with the read list in another order: of the frame, its entries of 24 bytes.
+fn reordered(rng: &mut Rng, (frame, header): &(Vec<u8>, Header)) -> (Vec<u8>, Header) {
+    let (before, rest) = frame.split_at(16.min(frame.len()));
+    let (entries, behind) = rest.split_at(24 * header.reads.len());
+    let mut pairs: Vec<(&[u8], ReadSegment)> = entries.chunks(24).zip(header.reads.iter().copied()).collect();
+    rng.reorder(&mut pairs);
+    let (entries, reads): (Vec<&[u8]>, Vec<ReadSegment>) = pairs.into_iter().unzip();
+    let frame = [before, &entries.concat(), behind].concat();
+    (frame, Header { reads, ..header.clone() })
+}
+
+/// The reference first against the fields, then the implementation against the reference; once as they
+/// are, then in other orders.
 pub fn run<C: Calls>(check: &mut Checker<C>, vectors: &[(Vec<u8>, Header)]) -> Outcome {
+    let rng = &mut Rng(7);
+    let orders: Vec<_> = (0..4).flat_map(|_| vectors).map(|vector| reordered(rng, vector)).collect();
+    let vectors = &[vectors, &orders].concat();
     check.family("read vectors");
     for (frame, header) in vectors {
         match read(frame) {

@@ -1,9 +1,10 @@
-//! Wrong variants: the plain calls, or for the reassembly, its goes and what was landed third ones, with
-//! one mistake put in. The families must find each.
+//! Wrong variants: the plain calls, or for the reassembly, its order, its goes and what was landed third
+//! ones, with one mistake put in. The families must find each.
 
 mod assembly;
 mod goes;
 mod header;
+mod order;
 mod reply;
 mod returned;
 mod setup;
@@ -36,6 +37,11 @@ enum Wrong {
     /// Made by the asking for the message alone.
     Message(assembly::Mistake),
     Goes(goes::Mistake),
+    Order(order::Mistake),
+    /// Made by pieces alone.
+    PieceOrder(order::Mistake),
+    /// Made by the asking for the message alone.
+    MessageOrder(order::Mistake),
     Returned(returned::Mistake),
 }
 
@@ -71,5 +77,6 @@ fn without_a_mistake_all_agree() {
     cases::reply::run(&mut check, rng, 2_000).unwrap();
     cases::assembly::run(&mut check, &mut Rng(6), 2_000).unwrap();
     cases::goes::run(&mut check, &mut Rng(6), 2_000).unwrap();
+    cases::order::run(&mut check, &mut Rng(6), 2_000).unwrap();
     cases::returned::run(&mut check, rng, 2_000).unwrap();
 }

@@ -1,6 +1,7 @@
 //! Time of the library's calls beside the plain ones and, where bytes are moved, beside the bare
 //! copies. `bench --one CALL INPUT N` just makes N calls, for callgrind; CALL is a row's call
-//! behind lib-, plain- or copy-, INPUT the row's input. A fill is all pieces of a 1 MiB message.
+//! behind lib-, plain- or copy-, INPUT the row's input. A fill is all pieces of a 1 MiB message; the
+//! 16 segments of fall16 are those of reads16 with falling positions.
 
 #[cfg(not(library))]
 compile_error!("set EOS_LIB_DIR to the folder that holds libeoswynnor.a");
@@ -8,7 +9,7 @@ compile_error!("set EOS_LIB_DIR to the folder that holds libeoswynnor.a");
 use compare::calls::{AssemblyCalls, Calls};
 use compare::cases::assembly::Frame;
 use compare::cases::goes::{chunked, parted, Laid};
-use compare::cases::header::{c2, full, reads16};
+use compare::cases::header::{c2, full, reads16, turned};
 use compare::cases::returned::{full_pair, write1};
 use compare::cases::setup::C10;
 use compare::convert::flatten;
@@ -24,12 +25,14 @@ use std::time::Instant;
 
 const RUNS: usize = 21;
 
-const ROWS: [(&str, &str); 30] = [
+const ROWS: [(&str, &str); 33] = [
     ("read", "c2"),
     ("read", "reads16"),
+    ("read", "fall16"),
     ("read", "full"),
     ("write", "c2"),
     ("write", "reads16"),
+    ("write", "fall16"),
     ("write", "full"),
     ("read-setup", "c10"),
     ("write-setup", "c10"),
@@ -41,6 +44,7 @@ const ROWS: [(&str, &str); 30] = [
     ("start", "inline"),
     ("start", "reads1"),
     ("start", "reads16"),
+    ("start", "fall16"),
     ("start", "inline4k"),
     ("take", "empty"),
     ("take", "empty16"),
@@ -80,6 +84,7 @@ struct Input {
 fn input(name: &str) -> Input {
     let header = match name {
         "reads16" => reads16(),
+        "fall16" => turned(reads16()),
         "full" => full(),
         _ => c2(),
     };
@@ -96,9 +101,11 @@ fn input(name: &str) -> Input {
         _ => 0,
     };
     let spread: Vec<(u32, u32)> = (0..16).map(|i| (4 + 12 * i, 5)).collect();
+    let falling: Vec<(u32, u32)> = spread.iter().rev().copied().collect();
     let (segments, inline) = match name {
         "reads1" => (&spread[..1], 64),
         "reads16" => (&spread[..], 64),
+        "fall16" => (&falling[..], 64),
         "inline4k" => (&[][..], 4096),
         _ => (&[][..], 12),
     };

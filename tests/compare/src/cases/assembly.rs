@@ -5,10 +5,11 @@ use super::{put, words};
 use crate::calls::Calls;
 use crate::check::{Checker, Outcome, Step};
 use crate::convert::flatten_state;
-use crate::reference::assembly::{State, MAX_MESSAGE};
+use crate::reference::assembly::{sorted, State, MAX_MESSAGE};
 use crate::reference::header::{encode, Fault, Header, Kind, ReadSegment, Segment, MAX_READS};
 use crate::rng::Rng;
 use eoswynnor::ffi;
+use std::collections::BTreeMap;
 
 pub(super) const KINDS: [Kind; 2] = [Kind::Msg, Kind::Nomsg];
 pub(super) const MOST: usize = MAX_MESSAGE as usize;
@@ -16,7 +17,7 @@ pub(super) const MOST: usize = MAX_MESSAGE as usize;
 /// A header and what lies inline behind it.
 #[derive(Clone)]
 pub struct Frame {
-    header: Header,
+    pub(super) header: Header,
     inline: Vec<u8>,
 }
 
@@ -41,6 +42,40 @@ impl Frame {
         self
     }
 
+    /// The same with another read list.
+    fn with(&self, reads: Vec<ReadSegment>) -> Self {
+        Frame { header: Header { reads, ..self.header.clone() }, inline: self.inline.clone() }
+    }
+
+    /// The same segments, with their positions in this order on the wire; those of one position stay
+    /// in theirs.
+    fn dealt(&self, positions: &[u32]) -> Self {
+        let mut left = self.header.reads.clone();
+        let deal = positions.iter().map(|&position| {
+            let at = left.iter().position(|entry| entry.position == position);
+            left.remove(at.expect("one for each position"))
+        });
+        self.with(deal.collect())
+    }
+
+    pub(super) fn positions(&self) -> Vec<u32> {
+        self.header.reads.iter().map(|entry| entry.position).collect()
+    }
+
+    /// Sorted on the wire already.
+    pub fn rising(&self) -> Self {
+        let mut positions = self.positions();
+        positions.sort();
+        self.dealt(&positions)
+    }
+
+    /// Positions never rise along the wire; segments of one position stay in their order.
+    pub fn falling(&self) -> Self {
+        let mut positions = self.positions();
+        positions.sort_by_key(|&position| !position);
+        self.dealt(&positions)
+    }
+
     pub fn bytes(&self) -> Vec<u8> {
         [encode(&self.header), self.inline.clone()].concat()
     }
@@ -52,11 +87,11 @@ impl Frame {
 
     /// The message's length if the start is accepted.
     pub fn length(&self) -> usize {
-        let chunks = self.header.reads.chunk_by(|one, two| one.position == two.position);
-        let rounded = chunks.map(|chunk| {
-            chunk.iter().map(|entry| entry.target.length as usize).sum::<usize>().next_multiple_of(4)
-        });
-        self.inline.len() + rounded.sum::<usize>()
+        let mut totals = BTreeMap::<u32, usize>::new();
+        for entry in &self.header.reads {
+            *totals.entry(entry.position).or_default() += entry.target.length as usize;
+        }
+        self.inline.len() + totals.values().map(|total| total.next_multiple_of(4)).sum::<usize>()
     }
 
     /// Around the message; small ones where it is large.
@@ -70,6 +105,11 @@ impl Frame {
 
     /// The state as a start leaves it, whether or not one would be accepted.
     pub(super) fn state(&self, buffer: usize, taken: usize) -> State {
+        State { reads: sorted(&self.header.reads), ..self.wire_state(buffer, taken) }
+    }
+
+    /// The same with the list as it lies on the wire.
+    pub fn wire_state(&self, buffer: usize, taken: usize) -> State {
         let zero = self.header.reads.iter().filter(|entry| entry.position == 0);
         let base = match self.header.kind {
             Kind::Nomsg => zero.map(|entry| entry.target.length as usize).sum(),
@@ -106,7 +146,16 @@ impl Rng {
         parts.into_iter().map(target).map(|target| ReadSegment { position, target }).collect()
     }
 
-    /// A frame whose start is accepted, given room.
+    /// The same segments in another wire order; those of one position stay in theirs, so that all else
+    /// is the same.
+    pub fn wire(&mut self, frame: &Frame) -> Frame {
+        let mut positions = frame.positions();
+        positions.sort();
+        self.reorder(&mut positions);
+        frame.dealt(&positions)
+    }
+
+    /// A frame whose start is accepted, given room; its segments lie in any order.
     pub fn call(&mut self, kind: Kind) -> Frame {
         let mut header = self.shape(kind, 0, 0, None);
         if self.below(4) == 0 {
@@ -143,11 +192,12 @@ impl Rng {
             left -= gap;
             step = if total == 0 { 4 } else { 0 };
         }
+        self.reorder(&mut header.reads);
         let inline = if kind == Kind::Msg { base as usize } else { 0 };
         Frame { header, inline: self.noise(inline) }
     }
 
-    /// One or more segments for each, 16 in all at most, with any handles and offsets.
+    /// One or more segments for each where it stood, 16 in all at most, with any handles and offsets.
     pub fn cut(&mut self, frame: &Frame) -> Frame {
         let mut spare = MAX_READS - frame.header.reads.len();
         let mut reads = Vec::new();
@@ -156,7 +206,7 @@ impl Rng {
             spare -= more;
             reads.extend(self.chunk(entry.position, entry.target.length, more + 1));
         }
-        Frame { header: Header { reads, ..frame.header.clone() }, inline: frame.inline.clone() }
+        frame.with(reads)
     }
 
     /// One thing that may or may not make the start refuse.
@@ -169,9 +219,10 @@ impl Rng {
             (1, _) => frame.inline.truncate(frame.inline.len().saturating_sub(1 + self.below(8))),
             (2, Some(entry)) => entry.position = entry.position.wrapping_add(step),
             (3, Some(entry)) => entry.position = entry.position.wrapping_sub(step),
-            // The whole chunk and all behind it.
-            (4, Some(_)) => {
-                reads[at..].iter_mut().for_each(|entry| entry.position = entry.position.wrapping_add(step))
+            // The whole chunk and all behind it in the message.
+            (4, Some(&mut ReadSegment { position: first, .. })) => {
+                let behind = reads.iter_mut().filter(|entry| entry.position >= first);
+                behind.for_each(|entry| entry.position = entry.position.wrapping_add(step))
             }
             (5, Some(entry)) => entry.target.length = entry.target.length.wrapping_add(step / 4),
             (6, Some(entry)) => entry.target.length = entry.target.length.saturating_sub(step / 4),
@@ -229,11 +280,11 @@ pub const INLINE: [u8; 12] = [1, 2, 3, 4, 5, 6, 7, 8, 9, 10, 11, 12];
 pub const PULLED: [u8; 5] = [0xa1, 0xa2, 0xa3, 0xa4, 0xa5];
 pub const C6: [u8; 20] = [1, 2, 3, 4, 5, 6, 7, 8, 0xa1, 0xa2, 0xa3, 0xa4, 0xa5, 0, 0, 0, 9, 10, 11, 12];
 /// C7's messages: the second chunk b1 to b4 at 16 and at 20.
-const C7_AT_16: [u8; 24] =
+pub const C7_AT_16: [u8; 24] =
     [1, 2, 3, 4, 5, 6, 7, 8, 0xa1, 0xa2, 0xa3, 0xa4, 0xa5, 0, 0, 0, 0xb1, 0xb2, 0xb3, 0xb4, 9, 10, 11, 12];
-const C7_AT_20: [u8; 24] =
+pub const C7_AT_20: [u8; 24] =
     [1, 2, 3, 4, 5, 6, 7, 8, 0xa1, 0xa2, 0xa3, 0xa4, 0xa5, 0, 0, 0, 9, 10, 11, 12, 0xb1, 0xb2, 0xb3, 0xb4];
-const C7_PULLED: [u8; 9] = [0xa1, 0xa2, 0xa3, 0xa4, 0xa5, 0xb1, 0xb2, 0xb3, 0xb4];
+pub const C7_PULLED: [u8; 9] = [0xa1, 0xa2, 0xa3, 0xa4, 0xa5, 0xb1, 0xb2, 0xb3, 0xb4];
 
 pub fn c6() -> Frame {
     Frame::new(Kind::Msg, &[(8, 5)], &INLINE)
@@ -323,7 +374,7 @@ pub fn starts<C: Calls>(check: &mut Checker<C>, rng: &mut Rng, cases: u64) -> Ou
         let mut segments = vec![(one, first), (two, second)];
         let mut inline = rng.noise(base);
         if kind == Kind::Nomsg {
-            segments.insert(0, (0, base as u32));
+            segments.insert(rng.below(3), (0, base as u32));
             inline.clear();
         }
         let frame = Frame::new(kind, &segments, &inline);
@@ -362,8 +413,10 @@ pub fn starts<C: Calls>(check: &mut Checker<C>, rng: &mut Rng, cases: u64) -> Ou
             let spread: Vec<_> = (0..count).map(|i| (4 + 12 * i, length)).collect();
             let joined: Vec<_> = (0..count).map(|i| (4 * (i / 6), length)).collect();
             for segments in [spread, joined] {
-                let frame = Frame::new(kind, &segments, &[9; 64][..if kind == Kind::Msg { 64 } else { 0 }]);
-                frame.rooms().into_iter().try_for_each(|room| check.start(&frame.bytes(), room))?;
+                let rising = Frame::new(kind, &segments, &[9; 64][..if kind == Kind::Msg { 64 } else { 0 }]);
+                for frame in [rising.falling(), rng.wire(&rising), rising] {
+                    frame.rooms().into_iter().try_for_each(|room| check.start(&frame.bytes(), room))?;
+                }
             }
         }
     }
@@ -414,6 +467,7 @@ pub fn sums<C: Calls>(check: &mut Checker<C>, rng: &mut Rng) -> Outcome {
                 if kind == Kind::Nomsg && position > 0 && count < 15 {
                     segments.insert(0, (0, 8));
                 }
+                rng.reorder(&mut segments);
                 let inline = if kind == Kind::Msg { rng.noise(8) } else { vec![] };
                 check.start(&Frame::new(kind, &segments, &inline).bytes(), 64)?;
                 // One more chunk behind, where a sum that wrapped would have its end.
@@ -422,7 +476,8 @@ pub fn sums<C: Calls>(check: &mut Checker<C>, rng: &mut Rng) -> Outcome {
                     for behind in
                         [position + 4, total & !3, (total & !3).wrapping_add(position), u32::MAX - 3]
                     {
-                        let segments = [&segments[..], &[(behind, 4)]].concat();
+                        let mut segments = [&segments[..], &[(behind, 4)]].concat();
+                        rng.reorder(&mut segments);
                         check.start(&Frame::new(kind, &segments, &inline).bytes(), 64)?;
                     }
                 }
@@ -456,6 +511,7 @@ pub fn largest<C: Calls>(check: &mut Checker<C>, rng: &mut Rng) -> Outcome {
             Frame::new(Kind::Msg, &[(12, 5)], &rng.noise(total - 8)),
         ];
         for frame in frames {
+            let frame = rng.wire(&frame);
             let bytes = frame.bytes();
             [0, 64].into_iter().try_for_each(|room| check.start(&bytes, room))?;
             if step == 0 {
@@ -495,13 +551,14 @@ pub fn largest<C: Calls>(check: &mut Checker<C>, rng: &mut Rng) -> Outcome {
     Ok(())
 }
 
-/// Pieces that end where the bits say.
+/// Pieces that end where the bits say, and with the last byte.
 pub(super) fn split(bytes: &[u8], ends: usize) -> Vec<Step> {
     let mut steps = vec![Step::Ask];
     let mut piece = Vec::new();
     for (at, &byte) in bytes.iter().enumerate() {
         piece.push(byte);
-        if ends >> at & 1 == 1 || at + 1 == bytes.len() {
+        let ends_here = ends.checked_shr(at as u32).is_some_and(|ends| ends & 1 == 1);
+        if ends_here || at + 1 == bytes.len() {
             steps.extend([Step::Piece(std::mem::take(&mut piece)), Step::Ask]);
         }
     }
@@ -525,10 +582,11 @@ pub fn splits<C: Calls>(check: &mut Checker<C>, rng: &mut Rng) -> Outcome {
         frames.extend((1..9).contains(&frame.pulled()).then_some(frame));
     }
     for frame in &frames {
-        let (uncut, bytes) = (frame.bytes(), rng.noise(frame.pulled()));
+        let bytes = rng.noise(frame.pulled());
         for ends in 0..1 << bytes.len().saturating_sub(1) {
-            let (cut, before) = (rng.cut(frame).bytes(), rng.noise(frame.length() + ends % 3));
-            let steps = split(&bytes, ends);
+            let wire = rng.wire(frame);
+            let (uncut, cut) = (wire.bytes(), rng.cut(&wire).bytes());
+            let (before, steps) = (rng.noise(frame.length() + ends % 3), split(&bytes, ends));
             check.way(&cut, &before, &steps)?;
             check.tallied(&uncut, &cut, &before, &steps)?;
             check.two_cuts([&cut, &uncut], &before, [&steps, &[Step::Piece(bytes.clone())]])?;
@@ -536,7 +594,9 @@ pub fn splits<C: Calls>(check: &mut Checker<C>, rng: &mut Rng) -> Outcome {
     }
     check.family("every two pieces");
     let drawn = (0..200).map(|i| rng.call(KINDS[i % 2])).collect::<Vec<_>>();
-    for frame in sixteen().into_iter().chain([c8()]).chain(drawn) {
+    for frame in
+        sixteen().iter().flat_map(|frame| [frame.clone(), frame.falling()]).chain([c8()]).chain(drawn)
+    {
         let (uncut, bytes) = (frame.bytes(), rng.noise(frame.pulled()));
         // Of a long one some places must do.
         for at in (0..=bytes.len()).step_by(1 + bytes.len() / 100) {
@@ -675,8 +735,8 @@ pub fn states<C: Calls>(check: &mut Checker<C>, rng: &mut Rng, cases: u64) -> Ou
     for (kind, list) in KINDS.iter().flat_map(|&kind| lists.map(|list| (kind, list))) {
         for base in [0, 4, 8, 12] {
             let frame = Frame::new(kind, list, &[9; 12][..base]);
-            let state = State { base, ..frame.state(40, 0) };
-            let own = State { base: frame.state(40, 0).base, ..state.clone() };
+            let own = frame.wire_state(40, 0);
+            let state = State { base, ..own.clone() };
             for (state, taken) in
                 [state, own].iter().flat_map(|state| [0, 1, frame.pulled()].map(|n| (state, n)))
             {
@@ -724,7 +784,9 @@ pub fn states<C: Calls>(check: &mut Checker<C>, rng: &mut Rng, cases: u64) -> Ou
         // An ERROR header's kind is none that a state can have.
         let error = matches!(frame.header.kind, Kind::Error(_));
         let buffer = [room, room + 1][rng.below(8) / 7];
-        let mut state = rng.noisy_state(&frame.state(buffer, taken));
+        let lists = [frame.state(buffer, taken), frame.wire_state(buffer, taken)];
+        let which = rng.below(4) / 3;
+        let mut state = rng.noisy_state(&lists[which]);
         state.kind = if error { 2 + rng.below(2) as u32 } else { state.kind };
         if rng.below(4) == 0 {
             state.base = near(state.base)[rng.below(22)];

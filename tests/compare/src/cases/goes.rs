@@ -13,7 +13,8 @@ impl Rng {
         lengths.into_iter().map(|length| Step::Piece(self.noise(length))).collect()
     }
 
-    /// A frame of many runs: all along the base stand chunks, few of them empty or back to back.
+    /// A frame of many runs: all along the base stand chunks, few of them empty or back to back. Its
+    /// segments lie in any order.
     pub fn dense(&mut self, kind: Kind) -> Frame {
         let base = 4 * (8 + self.below(24)) as u32;
         let zeros = [1, 1, 1 + self.below(3), 1 + self.below(12)][self.below(4)];
@@ -36,10 +37,8 @@ impl Rng {
         let segments: Vec<_> = reads.iter().map(|entry| (entry.position, entry.target.length)).collect();
         let inline = if kind == Kind::Msg { base as usize } else { 0 };
         let frame = Frame::new(kind, &segments, &self.noise(inline));
-        if self.below(2) == 0 {
-            return frame.in_one_memory();
-        }
-        frame
+        let frame = if self.below(2) == 0 { frame.in_one_memory() } else { frame };
+        self.wire(&frame)
     }
 }
 
@@ -80,10 +79,14 @@ impl Counted {
     pub fn run<C: Calls>(&self, check: &mut Checker<C>, rng: &mut Rng) -> Outcome {
         let (lengths, goes): (Vec<usize>, Vec<u32>) = self.pieces.iter().copied().unzip();
         let (pieces, before) = (rng.pieces(lengths), rng.noise(self.frame.length() + 1));
-        check
-            .goes(&self.frame.bytes(), &before, &pieces, &goes)
-            .and_then(|()| check.way(&self.frame.bytes(), &before, &pieces))
-            .map_err(|what| format!("{}: {what}", self.name))
+        // The goes are those of the sorted list, whatever the wire's order.
+        for frame in [self.frame.clone(), self.frame.falling(), rng.wire(&self.frame)] {
+            check
+                .goes(&frame.bytes(), &before, &pieces, &goes)
+                .and_then(|()| check.way(&frame.bytes(), &before, &pieces))
+                .map_err(|what| format!("{}: {what}", self.name))?;
+        }
+        Ok(())
     }
 }
 
@@ -232,7 +235,7 @@ pub fn cuts<C: Calls>(check: &mut Checker<C>, rng: &mut Rng) -> Outcome {
         let bytes = rng.noise(frame.pulled());
         for ends in 0..1 << (bytes.len() - 1) {
             let before = rng.noise(frame.length());
-            check.way(&frame.bytes(), &before, &split(&bytes, ends))?;
+            check.way(&rng.wire(frame).bytes(), &before, &split(&bytes, ends))?;
         }
     }
     // A base of 8 bytes, 4 of them before a chunk of 3.
@@ -240,7 +243,7 @@ pub fn cuts<C: Calls>(check: &mut Checker<C>, rng: &mut Rng) -> Outcome {
     for (base, chunk) in (0..1u32 << 7).flat_map(|base| (0..1u32 << 2).map(move |chunk| (base, chunk))) {
         let zero = lengths(8, base).into_iter().map(|length| (0, length));
         let other = lengths(3, chunk).into_iter().map(|length| (4, length));
-        let frame = nomsg(&zero.chain(other).collect::<Vec<_>>());
+        let frame = rng.wire(&nomsg(&zero.chain(other).collect::<Vec<_>>()));
         // The base is parted behind its fourth byte, cut there or not.
         let want = (base | 1 << 3).count_ones() + 1 + chunk.count_ones() + 1;
         let before = rng.noise(12);
@@ -263,6 +266,7 @@ pub fn counts<C: Calls>(check: &mut Checker<C>, rng: &mut Rng) -> Outcome {
             let others = (0..chunks).map(|at| (16 * (at + 1) + rounded * at, length));
             let (kind, inline) = if zeros > 0 { (Kind::Nomsg, 0) } else { (Kind::Msg, base as usize) };
             let frame = Frame::new(kind, &zero.chain(others).collect::<Vec<_>>(), &rng.noise(inline));
+            let frame = rng.wire(&frame);
             let (bytes, before, to_pull) = (frame.bytes(), rng.noise(frame.length()), frame.pulled());
             let want = if zeros > 0 { zeros + 2 * chunks } else { chunks };
             check.goes(&bytes, &before, &rng.pieces([to_pull]), &[want])?;
@@ -319,6 +323,7 @@ fn touched(runs: &[Range<usize>], bytes: &Range<usize>) -> u32 {
 pub fn full_size<C: Calls>(check: &mut Checker<C>, rng: &mut Rng) -> Outcome {
     check.family("goes at full size");
     for (frame, runs) in [chunked(MOST, 1), chunked(MOST, 16), parted(MOST)] {
+        let frame = rng.wire(&frame);
         let (bytes, to_pull, before) = (frame.bytes(), frame.pulled(), rng.noise(MOST));
         for piece in [32 << 10, MOST] {
             let parts: Vec<_> = (0..to_pull).step_by(piece).map(|at| at..to_pull.min(at + piece)).collect();

@@ -18,11 +18,12 @@ impl Rng {
         (0..count).map(|_| self.segment()).collect()
     }
 
-    /// Positions are multiples of 4 that never fall and often are equal.
+    /// Positions are multiples of 4 in any order and often are equal.
     fn reads(&mut self, count: usize) -> Vec<ReadSegment> {
         let most = [u32::MAX, 40][self.below(2)];
         let mut positions: Vec<u32> = (0..count).map(|_| self.word().min(most) & !3).collect();
         positions.sort();
+        self.reorder(&mut positions);
         positions.into_iter().map(|position| ReadSegment { position, target: self.segment() }).collect()
     }
 
@@ -138,7 +139,7 @@ pub fn c2_with(word: usize, value: u32) -> Vec<u8> {
     words(&list)
 }
 
-/// Positions 8 apart, so that one can fall, or be equal, without more ado.
+/// Positions 8 apart and rising, so that one can fall, or be equal, without more ado.
 fn spread(mut header: Header) -> Header {
     header.reads.iter_mut().enumerate().for_each(|(i, entry)| entry.position = 8 * (i as u32 + 2));
     header
@@ -149,7 +150,15 @@ pub fn reads16() -> Header {
 }
 
 pub fn full() -> Header {
-    Rng(2).header(Kind::Msg, 16, &[4, 4, 4, 4], Some(16))
+    let mut header = Rng(2).header(Kind::Msg, 16, &[4, 4, 4, 4], Some(16));
+    header.reads.sort_by_key(|entry| entry.position);
+    header
+}
+
+/// With the read list turned round.
+pub fn turned(mut header: Header) -> Header {
+    header.reads.reverse();
+    header
 }
 
 /// Some dozens of valid headers, the corner shapes among them.
@@ -158,6 +167,8 @@ pub(super) fn bases(rng: &mut Rng) -> Vec<Header> {
         c2(),
         reads16(),
         full(),
+        turned(reads16()),
+        turned(full()),
         rng.header(Kind::Error(Fault::Version { low: 1, high: 2 }), 0, &[], None),
         rng.header(Kind::Error(Fault::Chunk), 0, &[], None),
         rng.header(Kind::Nomsg, 16, &[16, 0, 0, 0], Some(16)),
@@ -268,11 +279,12 @@ fn limits<C: Calls>(check: &mut Checker<C>, rng: &mut Rng) -> Outcome {
         {
             every_cut(check, &encode(&rng.header(kind, 1, counts, Some(1))))?;
         }
-        // A fault before the limit is met first.
+        // A fault before the limit is met first; a position that falls is none.
         for (entry, step) in (0..17).flat_map(|entry| [(entry, 9), (entry, 12)]) {
             let mut header = spread(rng.header(kind, 17, &[], None));
             header.reads[entry].position -= step;
             check.read(&encode(&header))?;
+            check.read(&encode(&turned(header)))?;
         }
     }
     // Every spread of 15, 16 and 17 segments over four chunks or fewer.
@@ -309,7 +321,8 @@ fn limits<C: Calls>(check: &mut Checker<C>, rng: &mut Rng) -> Outcome {
     Ok(())
 }
 
-/// What is wrong, or just not wrong, with an entry's position, given the one before it.
+/// What is wrong, or just not wrong, with an entry's position, given the one before it. None that is
+/// a multiple of 4 is wrong.
 const POSITIONS: [fn(u32, u32) -> u32; 8] = [
     |old, _| old.wrapping_add(1),
     |old, _| old.wrapping_add(2),
@@ -328,6 +341,7 @@ fn positions<C: Calls>(check: &mut Checker<C>, rng: &mut Rng) -> Outcome {
         for (one, two) in (0..count).flat_map(|one| (one..count).map(move |two| (one, two))) {
             for (first, second) in (0..64).map(|n| (n / 8, n % 8)) {
                 let mut header = base.clone();
+                rng.reorder(&mut header.reads);
                 for (entry, fault) in [(one, first), (two, second)] {
                     let before = if entry == 0 { 0 } else { header.reads[entry - 1].position };
                     header.reads[entry].position = POSITIONS[fault](header.reads[entry].position, before);

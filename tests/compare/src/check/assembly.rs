@@ -4,14 +4,14 @@
 
 use super::lent::{Buffer, Place};
 use super::seen::{Call, Form, MOST_GOES};
-use super::{hex, Checker, Outcome};
+use super::{hex, same_list, same_number, Checker, Outcome};
 use crate::calls::Calls;
 use crate::convert::{flatten_state, unflatten_state};
-use crate::reference::assembly::{self, MAX_MESSAGE};
-use crate::reference::header::MAX_READS;
+use crate::reference::assembly::{self, is_sorted, sorted, MAX_MESSAGE};
+use crate::reference::header::{self, ReadSegment, MAX_READS};
 use crate::tally::Tally;
 use crate::words::Words;
-use eoswynnor::ffi::{PieceAnswer, State, NOMSG};
+use eoswynnor::ffi::{self, PieceAnswer, State, NOMSG};
 use std::fmt;
 
 /// One of the calls behind a start.
@@ -53,6 +53,21 @@ fn same_goes(got: u32, want: u32) -> Outcome {
         return Err(format!("goes: got {got}, want {want}, at most {MOST_GOES}"));
     }
     Ok(())
+}
+
+/// Whether a list that is not sorted is all that this state is refused for.
+fn unsorted(state: &State, room: usize) -> bool {
+    unflatten_state(state).is_ok_and(|state| {
+        let reads = sorted(&state.reads);
+        reads != state.reads && assembly::ask(&assembly::State { reads, ..state }, room) != Err(17)
+    })
+}
+
+/// Whether segments of one position lie apart.
+fn apart(wire: &[ReadSegment]) -> bool {
+    let runs = wire.chunk_by(|one, two| one.position == two.position).count();
+    let chunks = sorted(wire);
+    runs > chunks.chunk_by(|one, two| one.position == two.position).count()
 }
 
 impl<C: Calls> Checker<C> {
@@ -106,6 +121,9 @@ impl<C: Calls> Checker<C> {
         place.judge(answer.number, right.map(|(state, _)| state))?;
         same_goes(answer.goes, right.map_or(0, |(_, goes)| goes))?;
         self.memory.judge()?;
+        if answer.number == 17 && unsorted(state, self.memory.bytes().len()) {
+            self.seen.form(Form::UnsortedPiece);
+        }
         Ok((answer, place.now.value))
     }
 
@@ -124,6 +142,9 @@ impl<C: Calls> Checker<C> {
         let room = self.memory.bytes().len();
         let right = unflatten_state(state).and_then(|state| assembly::ask(&state, room));
         length.judge(number, right).map_err(|what| format!("message: {what}"))?;
+        if number == 17 && unsorted(state, room) {
+            self.seen.form(Form::UnsortedAsking);
+        }
         Ok(number)
     }
 
@@ -167,12 +188,16 @@ impl<C: Calls> Checker<C> {
             refused |= number != 0;
         }
         if finished {
-            self.finished(&state, refused);
+            self.finished(frame, &state, refused);
         }
         Ok(())
     }
 
-    fn finished(&mut self, state: &State, refused: bool) {
+    fn finished(&mut self, frame: &[u8], state: &State, refused: bool) {
+        // Behind a refused start zeros may be finished.
+        let wire = &header::read(frame).map_or(vec![], |(header, _)| header.reads)[..];
+        let last_at_zero = wire.last().is_some_and(|entry| entry.position == 0);
+        let falls = wire.is_sorted_by(|one, two| one.position > two.position);
         let natural = unflatten_state(state).expect("a finished state");
         let length = assembly::ask(&natural, state.buffer).expect("a finished state");
         let inline = if state.kind == NOMSG { 0 } else { state.base };
@@ -183,6 +208,10 @@ impl<C: Calls> Checker<C> {
             (Form::SixteenChunksFinished, chunks == MAX_READS),
             (Form::LargestFinished, length as u128 == MAX_MESSAGE),
             (Form::RefusalBetween, refused),
+            (Form::UnsortedFinished, !is_sorted(wire)),
+            (Form::ApartFinished, apart(wire)),
+            (Form::BaseLastFinished, last_at_zero && wire[0].position > 0),
+            (Form::FallingFinished, falls && wire.len() == MAX_READS),
         ];
         forms.into_iter().filter(|(_, seen)| *seen).for_each(|(form, _)| self.seen.form(form));
     }
@@ -259,6 +288,107 @@ impl<C: Calls> Checker<C> {
             self.seen.form(Form::CutsCompared);
         }
         outcome.map_err(|what| told(what, &cuts, before, &lists))
+    }
+
+    /// Two wire orders of the same segments, those of one position in the same order: the same number,
+    /// state and whole buffer.
+    pub fn two_orders(&mut self, orders: [&[u8]; 2], before: &[u8]) -> Outcome {
+        self.count();
+        let mut run = |frame: &[u8]| -> Result<(u32, State, Vec<u8>), String> {
+            self.memory.noise(before.len(), &mut self.noise);
+            self.memory.set(before);
+            let mut state = Place::holding(State::ZERO, &mut self.noise);
+            let mut frame = Buffer::holding(frame, &mut self.noise.aside());
+            let number = self.calls.start(&mut frame, self.memory.lent(), &mut state)?;
+            Ok((number, state.now.value, self.memory.bytes().to_vec()))
+        };
+        let outcome = run(orders[0]).and_then(|one| {
+            let two = run(orders[1])?;
+            if one != two {
+                return Err(format!("one: {} {:?}\nother: {} {:?}", one.0, one.1, two.0, two.1));
+            }
+            Ok(())
+        });
+        if orders[0] != orders[1] {
+            self.seen.form(Form::OrdersCompared);
+        }
+        outcome.map_err(|what| told(what, &orders, before, &[]))
+    }
+
+    /// The positions and handles of the list that a start leaves, which are the caller's and not the
+    /// reference's.
+    pub fn listed(&mut self, frame: &[u8], room: usize, want: &[(u32, u32)]) -> Outcome {
+        self.count();
+        self.memory.noise(room, &mut self.noise);
+        let mut state = Place::noise(&mut self.noise);
+        let mut lent = Buffer::holding(frame, &mut self.noise.aside());
+        self.calls
+            .start(&mut lent, self.memory.lent(), &mut state)
+            .and_then(|number| {
+                same_number(number, 0)?;
+                same_list(&state.now.value.reads, state.now.value.read_count, want)
+            })
+            .map_err(|what| format!("{what}\nframe: {}", short(frame)))
+    }
+
+    /// The way of a receiver: it pulls segment by segment what the list names that its start left. What
+    /// each handle's memory holds and the message are the caller's and not the reference's.
+    pub fn received(
+        &mut self,
+        frame: &[u8],
+        before: &[u8],
+        memory: impl Fn(u32, usize) -> Vec<u8>,
+        want: &[u8],
+    ) -> Outcome {
+        self.count();
+        self.memory.noise(before.len(), &mut self.noise);
+        self.memory.set(before);
+        let mut state = Place::noise(&mut self.noise);
+        let aside = &mut self.noise.aside();
+        let mut run = || {
+            let mut lent = Buffer::holding(frame, aside);
+            same_number(self.calls.start(&mut lent, self.memory.lent(), &mut state)?, 0)?;
+            let ffi::State { reads, read_count, .. } = state.now.value;
+            for entry in reads.iter().take(read_count as usize) {
+                let length = entry.target.length as usize;
+                // A mistake may name more than there is.
+                if length > want.len() {
+                    return Err(format!("{entry:?} is longer than the message"));
+                }
+                let mut piece = Buffer::holding(&memory(entry.target.handle, length), aside);
+                let answer = self.calls.take_piece(&mut state, &mut piece, self.memory.lent())?;
+                same_number(answer.number, 0).map_err(|what| format!("piece of {entry:?}: {what}"))?;
+            }
+            let (number, message) = self.asked(&mut state)?;
+            same_number(number, 0).map_err(|what| format!("message: {what}"))?;
+            if message != want {
+                return Err(format!("message: got {}\nwant {}", short(&message), short(want)));
+            }
+            Ok(())
+        };
+        run().map_err(|what: String| told(what, &[frame], before, &[]))
+    }
+
+    /// Whether a state can arise, which is the caller's to say and not the reference's: each call with it
+    /// is given 17, or none is.
+    pub fn arises(&mut self, state: &State, room: usize, want: bool) -> Outcome {
+        self.count();
+        self.memory.noise(room, &mut self.noise);
+        let mut place = Place::holding(*state, &mut self.noise);
+        let mut length = Place::noise(&mut self.noise);
+        let mut nothing = Buffer::holding(&[], &mut self.noise.aside());
+        let mut run = || {
+            let piece = self.calls.take_piece(&mut place, &mut nothing, self.memory.lent())?.number;
+            let asking = self.calls.message(&mut place, &mut self.memory, &mut length)?;
+            place.kept()?;
+            let good =
+                if want { piece == 0 && [0, 19].contains(&asking) } else { [piece, asking] == [17; 2] };
+            if !good {
+                return Err(format!("piece {piece}, asking {asking}; the state can arise: {want}"));
+            }
+            Ok(())
+        };
+        run().map_err(|what| format!("{what}\n{state:?}\nbuffer of {room} bytes"))
     }
 
     /// A frame and its pulled bytes, the message or number being that of document 01 itself; beside

@@ -1,8 +1,8 @@
 //! The checks of reading and writing headers.
 
 use super::lent::{Buffer, Place};
-use super::seen::Call;
-use super::{hex, Checker, Outcome};
+use super::seen::{Call, Form};
+use super::{hex, same_list, same_number, Checker, Outcome};
 use crate::calls::Calls;
 use crate::convert::{flatten, unflatten};
 use crate::reference::header;
@@ -24,6 +24,11 @@ fn judge_read(frame: &[u8], number: u32, place: &Place<Header>, part: Part) -> O
     Ok(())
 }
 
+fn unsorted(header: &Header) -> bool {
+    let reads = header.reads.get(..header.read_count as usize).unwrap_or_default();
+    !reads.is_sorted_by_key(|entry| entry.position)
+}
+
 impl<C: Calls> Checker<C> {
     pub fn read(&mut self, frame: &[u8]) -> Outcome {
         self.read_part(frame, frame.len())
@@ -39,6 +44,9 @@ impl<C: Calls> Checker<C> {
             let number = self.calls.read_header(&mut self.input, &mut header)?;
             self.seen.number(Call::Read, number);
             let part = self.calls.payload(&mut self.input)?;
+            if number == 0 && unsorted(&header.now.value) {
+                self.seen.form(Form::UnsortedRead);
+            }
             judge_read(frame, number, &header, part)
         };
         run().map_err(|what| format!("{what}\nframe ({length} bytes): {}", hex(frame)))
@@ -53,6 +61,9 @@ impl<C: Calls> Checker<C> {
             .write_header(&mut place, self.memory.lent(), &mut length)
             .and_then(|number| {
                 self.seen.number(Call::Write, number);
+                if number == 0 && unsorted(header) {
+                    self.seen.form(Form::UnsortedWritten);
+                }
                 self.judge_memory(number, &length, |out| {
                     unflatten(header).and_then(|header| header::write(&header, out))
                 })
@@ -99,6 +110,27 @@ impl<C: Calls> Checker<C> {
             }
             let numbers = format!("read {read}, written {written}, length {length}");
             Err(format!("{numbers}, want 0, 0, {before}\nwritten: {}", hex(&out)))
+        };
+        run().map_err(|what| format!("{what}\nframe: {}", hex(frame)))
+    }
+
+    /// A frame without a payload and each read segment's position and handle, both the caller's and not
+    /// the reference's: read in this order, and written again as the frame.
+    pub fn in_wire_order(&mut self, frame: &[u8], want: &[(u32, u32)]) -> Outcome {
+        self.count();
+        let (mut header, mut length) = (Place::noise(&mut self.noise), Place::noise(&mut self.noise));
+        let mut lent = Buffer::holding(frame, &mut self.noise.aside());
+        let mut run = || {
+            let read = self.calls.read_header(&mut lent, &mut header)?;
+            same_number(read, 0).map_err(|what| format!("reading: {what}"))?;
+            same_list(&header.now.value.reads, header.now.value.read_count, want)?;
+            let mut out = vec![0x55; frame.len()];
+            let written = self.calls.write_header(&mut header, &mut out, &mut length)?;
+            same_number(written, 0).map_err(|what| format!("writing: {what}"))?;
+            if out != frame || length.now.value != frame.len() {
+                return Err(format!("written ({} bytes): {}", length.now.value, hex(&out)));
+            }
+            Ok(())
         };
         run().map_err(|what| format!("{what}\nframe: {}", hex(frame)))
     }

@@ -45,7 +45,7 @@ impl<C: Calls> Checker<C> {
         self.calls
             .error_reply(&mut self.input, number, limit, self.memory.lent(), &mut written)
             .and_then(|got| {
-                self.seen.reply(got, written.now.value);
+                self.seen.reply(number, got, written.now.value);
                 self.judge_memory(got, &written, |out| reply::error_reply(frame, number, limit, out))
             })
             .map_err(|what| self.reply_text(what, frame, number, limit))
@@ -71,7 +71,7 @@ impl<C: Calls> Checker<C> {
         self.calls
             .error_reply(&mut lent, number, limit, self.memory.lent(), &mut length)
             .and_then(|got| {
-                self.seen.reply(got, length.now.value);
+                self.seen.reply(number, got, length.now.value);
                 self.judge_memory(got, &length, |out| reply::error_reply(frame, number, limit, out))?;
                 let length = if got == 0 { length.now.value } else { 0 };
                 let mut header = Place::noise(&mut self.noise);

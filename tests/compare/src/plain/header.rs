@@ -29,7 +29,6 @@ fn segment(rest: &mut &[u8]) -> Result<Segment, u32> {
 // Always, so that the benchmark does not hang on how the compiler cuts the files.
 #[inline(always)]
 fn lists(rest: &mut &[u8], flat: &mut Header) -> Result<(), u32> {
-    let mut before = 0;
     let mut reads = 0;
     while marker(rest)? {
         let place = flat.reads.get_mut(reads).ok_or(7u32)?;
@@ -38,10 +37,6 @@ fn lists(rest: &mut &[u8], flat: &mut Header) -> Result<(), u32> {
         if position % 4 != 0 {
             return Err(9);
         }
-        if position < before {
-            return Err(8);
-        }
-        before = position;
         reads += 1;
     }
     flat.read_count = reads as u32;
@@ -135,15 +130,8 @@ fn measure(flat: &Header) -> Result<usize, u32> {
     if total > 16 || flat.reply_count > reply_limit {
         return Err(7);
     }
-    let mut before = 0;
-    for entry in reads {
-        if entry.position % 4 != 0 {
-            return Err(9);
-        }
-        if entry.position < before {
-            return Err(8);
-        }
-        before = entry.position;
+    if reads.iter().any(|entry| entry.position % 4 != 0) {
+        return Err(9);
     }
     let need = match flat.kind {
         ERROR_VERSION => 28,

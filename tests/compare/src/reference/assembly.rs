@@ -1,6 +1,7 @@
 //! The reassembly of a call.
 
 use super::header::{self, Kind, ReadSegment, MAX_READS};
+use std::collections::BTreeSet;
 use std::iter::repeat_n;
 
 pub const MAX_MESSAGE: u128 = 1_048_576;
@@ -12,6 +13,18 @@ pub struct State {
     pub base: usize,
     pub buffer: usize,
     pub taken: usize,
+}
+
+/// Document 02, order 3: by position, segments of one position in wire order.
+pub fn sorted(wire: &[ReadSegment]) -> Vec<ReadSegment> {
+    let positions: BTreeSet<u32> = wire.iter().map(|entry| entry.position).collect();
+    let at = |position| wire.iter().filter(move |entry| entry.position == position);
+    positions.into_iter().flat_map(at).copied().collect()
+}
+
+/// Whether no position is below the one before it.
+pub fn is_sorted(reads: &[ReadSegment]) -> bool {
+    (1..reads.len()).all(|at| reads[at - 1].position <= reads[at].position)
 }
 
 /// Read segments with the same position; lengths are those of all its segments together.
@@ -26,6 +39,7 @@ impl Chunk {
     }
 }
 
+/// Of a sorted list.
 fn chunks(reads: &[ReadSegment]) -> Vec<Chunk> {
     let mut list: Vec<Chunk> = Vec::new();
     for entry in reads {
@@ -56,14 +70,14 @@ impl Places {
         self.base.len() + self.chunks.len() + self.padding.len()
     }
 
-    /// List order: the position-zero chunk comes first.
+    /// Sorted order: the position-zero chunk comes first.
     fn pulled(&self, kind: Kind) -> Vec<usize> {
         let base = if kind == Kind::Nomsg { &self.base[..] } else { &[] };
         [base, &self.chunks].concat()
     }
 }
 
-/// For each byte to be pulled, the segment it comes from, by its index in the read list.
+/// For each byte to be pulled, the segment it comes from, by its index in the sorted list.
 fn sources(reads: &[ReadSegment]) -> impl Iterator<Item = usize> + '_ {
     reads.iter().enumerate().flat_map(|(index, entry)| repeat_n(index, entry.target.length as usize))
 }
@@ -82,7 +96,7 @@ fn goes(bytes: impl IntoIterator<Item = (usize, usize)>) -> u32 {
     count
 }
 
-/// 12 to 16, then the places. The base's length is handed in: a state has its own.
+/// 12 to 16 of a sorted list, then the places. The base's length is handed in: a state has its own.
 fn places(kind: Kind, reads: &[ReadSegment], base: u128, room: usize) -> Result<Places, u32> {
     let at_zero = reads.iter().any(|entry| entry.position == 0);
     match kind {
@@ -130,21 +144,21 @@ pub fn start(frame: &[u8], out: &mut [u8]) -> Result<State, u32> {
         Kind::Nomsg => zero_length(&header.reads),
         _ => payload.len() as u128,
     };
-    let places = places(header.kind, &header.reads, base, out.len())?;
+    let reads = sorted(&header.reads);
+    let places = places(header.kind, &reads, base, out.len())?;
     if header.kind == Kind::Msg {
         places.base.iter().zip(payload).for_each(|(&place, &byte)| out[place] = byte);
     }
     places.padding.iter().for_each(|&place| out[place] = 0);
     let (base, buffer) = (places.base.len(), out.len());
-    Ok(State { kind: header.kind, reads: header.reads, base, buffer, taken: 0 })
+    Ok(State { kind: header.kind, reads, base, buffer, taken: 0 })
 }
 
 /// The places of a state that can arise, over the buffer length of its start; else 17.
 fn settled(state: &State, room: usize) -> Result<Places, u32> {
     let State { kind, ref reads, base, buffer, taken } = *state;
-    let listed = reads.len() <= MAX_READS
-        && reads.iter().all(|entry| entry.position % 4 == 0)
-        && reads.is_sorted_by_key(|entry| entry.position);
+    let listed =
+        reads.len() <= MAX_READS && reads.iter().all(|entry| entry.position % 4 == 0) && is_sorted(reads);
     let own_base = kind != Kind::Nomsg || base as u128 == zero_length(reads);
     if !listed || !own_base || buffer != room {
         return Err(17);
@@ -184,6 +198,7 @@ mod tests {
     use super::*;
     use crate::cases::assembly::{c6, c7, c8, c9, Frame, C6, INLINE, PULLED};
     use crate::cases::goes::counted;
+    use crate::reference::header::Segment;
     use crate::rng::Rng;
 
     #[test]
@@ -207,6 +222,57 @@ mod tests {
         let c2 = Frame::new(Kind::Msg, &[], &[]).bytes();
         let state = start(&c2, &mut []).unwrap();
         assert_eq!((ask(&state, 0), state), (Ok(0), State::default()));
+    }
+
+    /// Each number is the place on the wire.
+    #[test]
+    fn lists_sorted_by_hand() {
+        let lists: [(&[u32], &[u32]); 8] = [
+            (&[], &[]),
+            (&[8], &[0]),
+            (&[8, 4], &[1, 0]),
+            (&[8, 4, 8], &[1, 0, 2]),
+            (&[8, 8, 4], &[2, 0, 1]),
+            (&[8, 8, 8], &[0, 1, 2]),
+            (&[4, 0, 8, 0, 4], &[1, 3, 0, 4, 2]),
+            (&[u32::MAX - 3, 1 << 31, 65_536, 4, 0], &[4, 3, 2, 1, 0]),
+        ];
+        for (positions, want) in lists {
+            let entry = |(&position, handle)| {
+                let target = Segment { handle, ..Segment::default() };
+                ReadSegment { position, target }
+            };
+            let wire: Vec<ReadSegment> = positions.iter().zip(0..).map(entry).collect();
+            let list: Vec<u32> = sorted(&wire).iter().map(|entry| entry.target.handle).collect();
+            assert_eq!((&list[..], is_sorted(&wire)), (want, want.is_sorted()));
+        }
+    }
+
+    /// The same segments, never falling, those of one position in wire order: the standard's own stable
+    /// sort has no other choice.
+    #[test]
+    fn sorting_is_stable() {
+        let rng = &mut Rng(10);
+        for at in 0..3_000 {
+            let State { reads: wire, .. } = rng.call([Kind::Msg, Kind::Nomsg][at % 2]).wire_state(0, 0);
+            let mut list = wire.clone();
+            list.sort_by_key(|entry| entry.position);
+            assert_eq!(sorted(&wire), list);
+            assert!(is_sorted(&list) && sorted(&list) == list);
+        }
+    }
+
+    /// A wire list in a state: 17 unless it is sorted.
+    #[test]
+    fn unsorted_states() {
+        let frame = c7(16).falling();
+        let mut out = [0x55; 24];
+        let left = start(&frame.bytes(), &mut out).unwrap();
+        assert_eq!((ask(&left, 24), left.reads[0].position), (Err(19), 8));
+        let mut wire = frame.wire_state(24, 0);
+        assert_eq!((take(&mut wire, &[], &mut out), ask(&wire, 24)), (Err(17), Err(17)));
+        wire.reads.reverse();
+        assert_eq!((take(&mut wire, &[], &mut out), wire), (Ok(0), left));
     }
 
     /// Each frame has all later faults too.

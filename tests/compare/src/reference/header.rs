@@ -86,7 +86,7 @@ impl Cursor<'_> {
     }
 
     fn read_list(&mut self) -> Result<Vec<ReadSegment>, u32> {
-        let mut list: Vec<ReadSegment> = Vec::new();
+        let mut list = Vec::new();
         while self.marker()? {
             if list.len() == MAX_READS {
                 return Err(7);
@@ -94,9 +94,6 @@ impl Cursor<'_> {
             let entry = ReadSegment { position: self.word()?, target: self.segment()? };
             if entry.position % 4 != 0 {
                 return Err(9);
-            }
-            if list.last().is_some_and(|before| entry.position < before.position) {
-                return Err(8);
             }
             list.push(entry);
         }
@@ -244,15 +241,9 @@ fn refusal(header: &Header) -> Option<u32> {
     if over_limit(header) {
         return Some(7);
     }
-    let mut before = 0;
-    for entry in &header.reads {
-        if entry.position % 4 != 0 {
-            return Some(9);
-        }
-        if entry.position < before {
-            return Some(8);
-        }
-        before = entry.position;
+    // In any order: document 02, order 3.
+    if header.reads.iter().any(|entry| entry.position % 4 != 0) {
+        return Some(9);
     }
     None
 }
@@ -272,13 +263,12 @@ pub fn write(header: &Header, out: &mut [u8]) -> Result<usize, u32> {
 #[cfg(test)]
 mod tests {
     use super::*;
-    use crate::cases::header::{c2_with, full};
+    use crate::cases::header::{c2, c2_with, full};
 
     #[test]
     fn worked_examples() {
         assert_eq!(read(&[]), Err(1)); // C1
-        let c2 = Header { xid: 0x2a, credit: 0x20, ..Header::default() };
-        assert_eq!(read(&c2_with(1, 1)), Ok((c2, &[][..])));
+        assert_eq!(read(&c2_with(1, 1)), Ok((c2(), &[][..])));
         assert_eq!(read(&c2_with(1, 2)), Err(2)); // C3
         assert_eq!(read(&c2_with(1, 1)[..27]), Err(5)); // C4
         assert_eq!(read(&c2_with(4, 2)), Err(6)); // C5
@@ -288,6 +278,26 @@ mod tests {
         assert_eq!(read(&out), Ok((full, &[7; 40][..])));
     }
 
+    /// 8 then 4, with 9 and 7 still met from left to right.
+    #[test]
+    fn lists_in_any_order() {
+        let at = |position| ReadSegment { position, ..ReadSegment::default() };
+        let with = |list: &[u32]| Header { reads: list.iter().map(|&p| at(p)).collect(), ..c2() };
+        let mut out = [7; 960];
+        for list in [&[8, 4][..], &[8, 4, 8], &[4, 4], &[u32::MAX - 3, 0], &[60; 16]] {
+            let length = write(&with(list), &mut out).unwrap();
+            assert_eq!((length, read(&out[..length])), (28 + 24 * list.len(), Ok((with(list), &[][..]))));
+        }
+        let seventeen = |at: usize| {
+            let mut list = [8, 4, 8, 0, 4, 12, 4, 8, 8, 4, 0, 0, 8, 4, 4, 8, 4];
+            list[at] += 2;
+            read(&encode(&with(&list))).err()
+        };
+        assert_eq!([0, 1, 15, 16].map(seventeen), [9, 9, 9, 7].map(Some));
+        assert_eq!(read(&encode(&with(&[8, 4, 2, 3]))), Err(9));
+        assert_eq!(write(&with(&[8, 4, 2, 3]), &mut out), Err(9));
+    }
+
     #[test]
     fn refusals_of_writing() {
         let (mut header, mut out) = (full(), [7; 960]);
@@ -295,8 +305,6 @@ mod tests {
         header.reads[2].position = 6;
         header.reads[3].position = 0;
         assert_eq!(write(&header, &mut out), Err(9));
-        header.reads[2].position = 8;
-        assert_eq!(write(&header, &mut out), Err(8));
         header.reply.present = false;
         assert_eq!(write(&header, &mut out), Err(7));
         header.kind = Kind::Error(Fault::Chunk);

@@ -1,5 +1,10 @@
 //! A third reassembly, into which one mistake at a time is put.
 
+use super::order::sort_frame;
+use super::order::Mistake::{
+    CheckedBeforeSorting, PulledInWireOrder, RefusedStateSorted, Signed, StartSortsFrame, StateGives8,
+    StateInWireOrder,
+};
 use super::reply::Mistake::{ReplyToError, ReplyToErrorOfOtherVersion};
 use super::{can_fail, is_found, mistakes, store_behind, Wrong};
 use crate::calls::AssemblyCalls;
@@ -13,7 +18,7 @@ use crate::rng::Rng;
 use crate::words::Words;
 use eoswynnor::ffi::{self, MSG, NOMSG};
 use Mistake::*;
-use Wrong::{Assembly, Message, Nowhere, Piece, Reply};
+use Wrong::{Assembly, Message, MessageOrder, Nowhere, Piece, PieceOrder, Reply};
 
 mistakes! {
     // Where bytes stand.
@@ -126,7 +131,9 @@ impl Wrong {
         state: bool,
     ) -> Result<Laid, u32> {
         let without = |mistake| state && self.has(mistake);
-        let at_zero = reads.iter().any(|entry| entry.position == 0);
+        // Signed, the sorted list need not begin with it.
+        let first = if self.misorders(Signed) { 1 } else { reads.len() };
+        let at_zero = reads.iter().take(first).any(|entry| entry.position == 0);
         let twelve = match kind {
             Kind::Msg => at_zero && !self.has(MsgAtZeroTaken) && !without(No12Msg),
             Kind::Nomsg => !at_zero && !self.has(NomsgWithoutZeroTaken) && !without(No12Nomsg),
@@ -245,17 +252,26 @@ impl Wrong {
             self.read_list_fits(frame)?;
         }
         let (mut header, payload) = header::read(&lent)?;
+        self.refused_order(header.kind, &header.reads)?;
         let handles = header.reads.windows(2).filter(|pair| pair[0].position == pair[1].position);
         if self.has(OneHandle)
             && handles.into_iter().any(|pair| pair[0].target.handle != pair[1].target.handle)
         {
             return Err(14);
         }
-        let base = if header.kind == Kind::Nomsg { self.zero_length(&header.reads) } else { payload.len() };
+        let zero = self.at_zero(&header.reads);
+        let base = if header.kind == Kind::Nomsg { self.zero_length(zero) } else { payload.len() };
         if self.has(RefusedStartWrites) && payload.len() <= out.len() {
             out[..payload.len()].copy_from_slice(payload);
         }
-        let laid = self.lay(header.kind, &header.reads, base, out.len(), false)?;
+        if self.misorders(CheckedBeforeSorting) {
+            self.lay(header.kind, &header.reads, base, out.len(), false)?;
+        }
+        let sorted = self.sort(header.kind, &header.reads);
+        let laid = self.lay(header.kind, &sorted, base, out.len(), false)?;
+        if !self.misorders(StateInWireOrder) && !self.misorders(PulledInWireOrder) {
+            header.reads = sorted;
+        }
         if self.has(PulledCleared) {
             laid.pulled.iter().for_each(|&place| out[place] = 0);
         }
@@ -298,6 +314,7 @@ impl Wrong {
                     assembly::start(frame, &mut [0; 1 << 20]).map_or(before, |state| flatten_state(&state))
             }
             0 if self.has(StartChangesFrame) => frame[3] ^= 1,
+            0 if self.misorders(StartSortsFrame) => sort_frame(frame),
             5.. if self.has(RefusedStartChangesFrame) => frame[4..8].reverse(),
             0 if self.has(StartReservedKept) && used > 0 => {
                 place.reads[used - 1].reserved = before.reads[used - 1].reserved
@@ -338,15 +355,23 @@ impl Wrong {
         if self.has(ReservedInPosition) && !used.is_sorted_by_key(joined) {
             return Err(17);
         }
-        let reads = &used.iter().map(|&entry| entry.into()).collect::<Vec<ReadSegment>>()[..];
-        let nine = !self.has(No9) && reads.iter().any(|entry| entry.position % 4 != 0);
-        let eight = !self.has(No8) && !reads.is_sorted_by_key(|entry| entry.position);
+        let wire: Vec<ReadSegment> = used.iter().map(|&entry| entry.into()).collect();
+        let nine = !self.has(No9) && wire.iter().any(|entry| entry.position % 4 != 0);
+        let unsorted = !self.has(No8) && !self.takes_order(&flat.reads, used.len());
+        let mut sorted = wire.clone();
+        if !self.has(No8) {
+            sorted.sort_by_key(|entry| entry.position);
+        }
+        let reads = &sorted[..];
         let mut base = flat.base;
         if self.has(BaseIn32Bits) {
             base = base as u32 as usize;
         }
         let own = kind != Kind::Nomsg || base == self.zero_length(reads) || self.has(AnyBase);
-        if nine || eight || !own || flat.buffer != room && !self.has(AnyBuffer) || base > 2 << 20 {
+        if unsorted && self.misorders(StateGives8) {
+            return Err(8);
+        }
+        if nine || unsorted || !own || flat.buffer != room && !self.has(AnyBuffer) || base > 2 << 20 {
             return Err(17);
         }
         let mut room = room;
@@ -356,6 +381,9 @@ impl Wrong {
         let mut laid = self.lay(kind, reads, base, room, true).map_err(|_| 17u32)?;
         if self.has(No14) {
             laid.pulled.truncate(reads.iter().map(|entry| entry.target.length as usize).sum());
+        }
+        if self.misorders(PulledInWireOrder) {
+            laid.pulled = self.pulled_order(&wire, laid.pulled);
         }
         let taken = if self.has(TakenIn32Bits) { flat.taken as u32 as usize } else { flat.taken };
         if taken > laid.pulled.len() && !self.has(AnyTaken) {
@@ -438,6 +466,7 @@ impl Wrong {
         match number {
             17 if self.has(KindMended) => state.kind = state.kind.min(NOMSG),
             17 if self.has(RefusedStateZeroed) => *state = ffi::State::ZERO,
+            17 if self.misorders(RefusedStateSorted) => sort_used(state),
             18 if self.has(RefusedUnusedZeroed) => {
                 state.reads[state.read_count as usize..].fill(Default::default())
             }
@@ -487,6 +516,7 @@ impl Wrong {
             19 if self.has(Refused19Length) => *place = 0,
             19 if self.has(LengthBeside19) => *place = state.base.min(out.len()),
             19 if self.has(AskingWrites) => out[0] ^= 1,
+            17 if self.misorders(RefusedStateSorted) => sort_used(state),
             0 if self.has(MessageChangesState) => state.reads[15].reserved ^= 1,
             17 | 19 if self.has(RefusedMessageChangesState) => state.taken = 0,
             _ => {}
@@ -496,6 +526,11 @@ impl Wrong {
         }
         number
     }
+}
+
+fn sort_used(state: &mut ffi::State) {
+    let used = state.read_count.min(16) as usize;
+    state.reads[..used].sort_by_key(|entry| entry.position);
 }
 
 fn rounded_up(length: usize) -> usize {
@@ -508,14 +543,14 @@ impl AssemblyCalls for Wrong {
     }
 
     fn take_piece(&self, state: &mut ffi::State, piece: &mut [u8], out: &mut [u8]) -> ffi::PieceAnswer {
-        let wrong = if let Message(_) = self { &Nowhere } else { self };
+        let wrong = if let Message(_) | MessageOrder(_) = self { &Nowhere } else { self };
         let before = *state;
         let number = wrong.faulty_take_piece(state, piece, out);
         wrong.answer(&before, piece.len(), number)
     }
 
     fn message(&self, state: &mut ffi::State, out: &mut [u8], length: &mut usize) -> u32 {
-        let wrong = if let Piece(_) = self { &Nowhere } else { self };
+        let wrong = if let Piece(_) | PieceOrder(_) = self { &Nowhere } else { self };
         wrong.faulty_message(state, out, length)
     }
 }

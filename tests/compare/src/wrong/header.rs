@@ -1,6 +1,6 @@
 //! Headers with one mistake.
 
-use super::{can_fail, is_found, mistakes, store_behind, Wrong};
+use super::{can_fail, is_found, mistakes, order, store_behind, Wrong};
 use crate::calls::HeaderCalls;
 use crate::cases::header::{c2, full, run};
 use crate::convert::flatten;
@@ -10,11 +10,11 @@ use crate::rng::Rng;
 use crate::words::Words;
 use eoswynnor::ffi;
 use Mistake::*;
-use Wrong::Header;
+use Wrong::{Header, Order};
 
 mistakes! {
     // Reading.
-    FallingAsUnaligned UnalignedAsFalling OverLimitAsCutOff BytesBehindTaken EmptyReplyChunkLost
+    UnalignedAs8 OverLimitAsCutOff BytesBehindTaken EmptyReplyChunkLost
     HighestOffsetBitLost ErrorChunkCreditLost
     // The header lent for storing: a refusal changes it; a reserved word or an unused place is not zero.
     RefusalStoresXid RefusalZeroes RefusalStoresCredit BytesBehindZeroes ReservedKept UsedReservedKept
@@ -24,7 +24,7 @@ mistakes! {
     PayloadCutToWords EmptyPayloadOfOneByte PayloadInErrorChunk EmptyPayloadPlaced
     // Writing.
     KindAndListsAsOverLimit BadArgumentAsOverLimit ReservedRefused UsedReservedRefused
-    UnusedReservedRefused ReservedInOrder ReservedInPosition
+    UnusedReservedRefused ReservedInPosition
     // What a writing leaves.
     ByteBehindCleared ShortBufferWritten ShortBufferLength RefusalLengthZero RefusalLengthNeeded
     WriteStoresBehind
@@ -35,18 +35,20 @@ mistakes! {
 
 impl HeaderCalls for Wrong {
     fn read_header(&self, frame: &mut [u8], header: &mut ffi::Header) -> u32 {
+        if let Order(mistake) = *self {
+            return order::read(mistake, frame, header);
+        }
         let before = *header;
         let number = Plain.read_header(frame, header);
         let used = header.read_count as usize;
         match (*self, number) {
-            (Header(FallingAsUnaligned), 8) => return 9,
             (Header(OverLimitAsCutOff), 7) => return 5,
             (Header(BytesBehindTaken), 11) => return 0,
             (Header(RefusalStoresXid), 10) => header.xid = 1,
             (Header(EmptyReplyChunkLost), 0) if header.reply_count == 0 => header.reply_present = 0,
             (Header(HighestOffsetBitLost), 0) => header.reads[15].target.offset &= !(1 << 63),
             (Header(ErrorChunkCreditLost), 0) if header.kind == ffi::ERROR_CHUNK => header.credit = 0,
-            (Header(UnalignedAsFalling), 9) => return 8,
+            (Header(UnalignedAs8), 9) => return 8,
             // The header lent is changed by a refusal: by all, by those behind the fixed words, by one alone.
             (Header(RefusalZeroes), 1..) => *header = ffi::Header::ZERO,
             (Header(RefusalStoresCredit), 5..) => {
@@ -96,6 +98,9 @@ impl HeaderCalls for Wrong {
     }
 
     fn write_header(&self, header: &mut ffi::Header, out: &mut [u8], length: &mut usize) -> u32 {
+        if let Order(mistake) = *self {
+            return order::write(mistake, header, out, length);
+        }
         let mut given = *header;
         let used = header.reads.get(..header.read_count as usize).unwrap_or_default();
         match *self {
@@ -107,14 +112,7 @@ impl HeaderCalls for Wrong {
             {
                 return 20
             }
-            // Position and reserved word taken as one, in the order of positions and for the position.
-            Header(ReservedInOrder)
-                if !used.is_sorted_by_key(|entry| {
-                    u64::from(entry.reserved) << 32 | u64::from(entry.position)
-                }) =>
-            {
-                return 8;
-            }
+            // Reserved word and position taken as one.
             Header(ReservedInPosition) if !used.is_empty() => {
                 given.reads[0].position |= given.reads[0].reserved & 0x100
             }

@@ -1,6 +1,6 @@
 //! Grants and error replies with one mistake.
 
-use super::header::Mistake::{ErrorChunkCreditLost, PayloadInErrorChunk, UnalignedAsFalling};
+use super::header::Mistake::{ErrorChunkCreditLost, PayloadInErrorChunk, UnalignedAs8};
 use super::{can_fail, is_found, mistakes, store_behind, Wrong};
 use crate::calls::ReplyCalls;
 use crate::cases::header::c2_with;
@@ -17,7 +17,8 @@ mistakes! {
     GrantStoresBehind
     // Which reply, if any.
     ReplyToError ReplyToErrorOfOtherVersion ProcedureByLastByte ShortFrameFilledUp
-    NoReplyBeforeArgument ReplyFor10 ReplyFor4 ReplyFor16 NoReplyFor3 NoReplyForStarts ChunkReplyFor2
+    NoReplyBeforeArgument ReplyFor10 ReplyFor4 ReplyFor16 NoReplyFor3 NoReplyFor8 NoReplyForStarts ChunkReplyFor2
+    VersionReplyFor8 Number8Refused
     Number22Taken NumberCutToByte LimitZeroTaken RoomBeforeNoReply LongerRoomForBoth
     // Its bytes.
     AskedForGrant LimitForGrant FrameVersionWord HighIsTwo XidReversed ChunkReplyOf28
@@ -71,6 +72,10 @@ impl ReplyCalls for Wrong {
             Reply(ReplyFor4) if number == 4 => number = 3,
             Reply(ReplyFor16) if number == 16 => number = 15,
             Reply(NoReplyFor3) if number == 3 => number = 4,
+            // 8 is given no more, but still taken.
+            Reply(NoReplyFor8) if number == 8 => number = 0,
+            Reply(VersionReplyFor8) if number == 8 => number = 2,
+            Reply(Number8Refused) if number == 8 => return 20,
             Reply(NoReplyForStarts) if (12..=15).contains(&number) => number = 0,
             Reply(ChunkReplyFor2) if number == 2 => number = 3,
             Reply(Number22Taken) if number == 22 => number = 21,
@@ -112,7 +117,7 @@ impl ReplyCalls for Wrong {
 
 /// Mistakes of the reading before an error reply, or of one that is read back.
 const READINGS: [Wrong; 3] =
-    [Header(ErrorChunkCreditLost), Header(UnalignedAsFalling), Header(PayloadInErrorChunk)];
+    [Header(ErrorChunkCreditLost), Header(UnalignedAs8), Header(PayloadInErrorChunk)];
 
 #[test]
 fn each_is_found() {
@@ -126,9 +131,7 @@ fn each_is_found() {
 fn checks_over_several_calls_can_fail() {
     can_fail(Reply(AskedForGrant), |check| check.read_reply(&c2_with(2, 33)[..20], 32, 20));
     can_fail(Header(ErrorChunkCreditLost), |check| check.read_reply(&c2_with(4, 2), 32, 20));
-    can_fail(Header(UnalignedAsFalling), |check| {
-        check.read_reply(&words(&[1, 1, 1, 0, 1, 2, 0, 0, 0, 0]), 32, 20)
-    });
+    can_fail(Header(UnalignedAs8), |check| check.read_reply(&words(&[1, 1, 1, 0, 1, 2, 0, 0, 0, 0]), 32, 20));
     can_fail(Header(PayloadInErrorChunk), |check| check.read_reply(&c2_with(4, 2), 32, 20));
     can_fail(Reply(ReplyChangesFrame), |check| check.read_reply(&c2_with(2, 33)[..20], 32, 20));
     can_fail(Reply(NoReplyChangesFrame), |check| check.read_reply(&c2_with(1, 1), 32, 20));

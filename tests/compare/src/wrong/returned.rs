@@ -119,7 +119,7 @@ impl Wrong {
         if seven {
             return Err(7);
         }
-        // The writer's 9 and 8, which are no part of its 7.
+        // The writer's 9, which is no part of its 7, and the 8 that it had.
         let reads = sent.reads.get(..sent.read_count as usize).unwrap_or_default();
         if self.slips(NineToo) && reads.iter().any(|entry| entry.position & 3 != 0) {
             return Err(9);
