@@ -24,15 +24,16 @@
  *     size_t length;
  *     uint32_t number = eos_start(frame, frame_len, out, out_len, &state);
  *     if (number != EOS_DONE) refuse: eos_error_reply(frame, frame_len, number, limit, reply, EOS_MAX_REPLY, &length);
- *     for each piece pulled, in the order of state.reads:
+ *     for each piece pulled, in the order of state.reads, which need not be the order on the wire:
  *         if (eos_take_piece(&state, piece, piece_len, out, out_len).number != EOS_DONE) it was more than is still to be
  *             pulled (EOS_PIECE_LONG), or the state or the buffer's length was changed; nothing is, so another may come
  *     if (eos_message(&state, out, out_len, &length) == EOS_DONE)
  *         the message is the first length bytes of out
  *
- * Read segments with the same position are one chunk: their bytes joined, then zeros up to a multiple of 4. The base is the
- * inline payload of MSG, or the chunk at position 0 of NOMSG. A position counts in the finished message, with the chunks
- * before it and their padding; the base fills the places that the chunks leave.
+ * A read list may come in any order of position. Read segments with the same position are one chunk, wherever they stand in
+ * the list: their bytes joined in wire order, then zeros up to a multiple of 4. The base is the inline payload of MSG, or
+ * the chunk at position 0 of NOMSG. A position counts in the finished message, with the chunks before it and their padding;
+ * the base fills the places that the chunks leave.
  *
  * The way of a reply, for a client:
  *
@@ -85,7 +86,7 @@ enum eos_number {
     EOS_BAD_MARKER = 6,          /* a marker word above 1 */
     EOS_OVER_LIMIT = 7,          /* an entry or count that goes over a limit above; in writing and in eos_returned also
                                     segments in a reply chunk that is not present */
-    EOS_POSITION_FALLS = 8,      /* a read position below the one before it */
+    EOS_POSITION_FALLS = 8,      /* reserved: never given */
     EOS_POSITION_UNALIGNED = 9,  /* a read position that is no multiple of 4 */
     EOS_OTHER_ERROR_CODE = 10,   /* error code neither 1 nor 2 */
     EOS_BYTES_BEHIND = 11,       /* bytes behind a NOMSG or ERROR header */
@@ -93,7 +94,7 @@ enum eos_number {
                                     or NOMSG with none there; in writing an ERROR header with an entry or reply chunk */
     EOS_BASE_UNALIGNED = 13,     /* base length no multiple of 4, with chunks or without */
     EOS_CHUNK_OVERLAPS = 14,     /* a chunk's position overlaps or lies past the base: inside the padded chunk before it, or
-                                    behind the base and all padded chunks before it together */
+                                    behind the base and all padded chunks before it together; before is by position */
     EOS_MESSAGE_LONG = 15,       /* message above 1,048,576 bytes */
     EOS_BUFFER_SHORT = 16,       /* output buffer too short */
     EOS_STATE_UNFIT = 17,        /* state not one that can arise, or another buffer length than at the start */
@@ -128,8 +129,8 @@ struct eos_read_segment {
     struct eos_segment target;
 };
 
-/* A transport header. Places behind a count are unused: zero in a header that was read, ignored in one to be written or
- * compared. */
+/* A transport header. Its lists are in wire order, the read list in any order of position. Places behind a count are
+ * unused: zero in a header that was read, ignored in one to be written or compared. */
 struct eos_header {
     struct eos_read_segment reads[EOS_MAX_READ_SEGMENTS];
     struct eos_segment writes[EOS_MAX_WRITE_SEGMENTS]; /* of all write chunks, one behind the other */
@@ -167,10 +168,11 @@ struct eos_agreement {
     uint32_t remote_invalidation; /* 0 or 1 */
 };
 
-/* The state of a reassembly. Pull reads[0] to reads[read_count - 1], in this order, target.length bytes of each and no
- * padding; leave the fields alone. What is still to be pulled is the sum of these lengths less taken. */
+/* The state of a reassembly. Pull reads[0] to reads[read_count - 1], in this order and not in that of a header that was
+ * read: target.length bytes of each and no padding. What is still to be pulled is the sum of these lengths less taken.
+ * Leave the fields alone: a list that is not sorted gets 17. */
 struct eos_state {
-    struct eos_read_segment reads[EOS_MAX_READ_SEGMENTS];
+    struct eos_read_segment reads[EOS_MAX_READ_SEGMENTS]; /* sorted by position, segments of one position in wire order */
     size_t base;                  /* bytes of the inline payload, or of the segments at position 0 */
     size_t buffer;                /* length of the buffer at the start */
     size_t taken;                 /* bytes taken so far */
@@ -193,15 +195,15 @@ struct eos_landed {
     uint64_t reply;                        /* 0 where no reply chunk came back */
 };
 
-/* Reads the header of a frame. Numbers 1 to 4, then 5 to 10 from left to right, then 11. */
+/* Reads the header of a frame, its lists as they stand. Numbers 1 to 4, then 5, 6, 7, 9, 10 from left to right, then 11. */
 uint32_t eos_read_header(const uint8_t *frame, size_t frame_len, struct eos_header *header);
 
 /* Where the inline payload of a frame lies; empty where eos_read_header refuses. */
 struct eos_part eos_payload(const uint8_t *frame, size_t frame_len);
 
-/* Writes a header to the front of a buffer and stores how many bytes it has; an inline payload is the caller's to put right
- * behind it. As with every writer, the bytes behind are kept. A header of zeros is MSG with empty lists. Numbers 20, 12, 7,
- * then entry by entry 9 and 8, then 21, 16. */
+/* Writes a header, its lists as they stand, to the front of a buffer and stores how many bytes it has; an inline payload is
+ * the caller's to put right behind it. As with every writer, the bytes behind are kept. A header of zeros is MSG with empty
+ * lists. Numbers 20, 12, 7, then entry by entry 9, then 21, 16. */
 uint32_t eos_write_header(const struct eos_header *header, uint8_t *out, size_t out_len, size_t *length);
 
 /* Reads setup data from the first 8 bytes, and whether there is any (present is 1). Where there is none, present is 0, the
@@ -226,16 +228,16 @@ uint32_t eos_grant(uint32_t asked, uint32_t limit, uint32_t *credit);
 uint32_t eos_error_reply(const uint8_t *frame, size_t frame_len, uint32_t number, uint32_t limit, uint8_t *out,
                          size_t out_len, size_t *length);
 
-/* Starts the reassembly of a call: reads the frame, writes its inline bytes and all padding to their places in the
- * buffer, and stores the state. The message has as many bytes as the inline payload and the segments at position 0
- * together, and for each other position the bytes of its segments, rounded up together to a multiple of 4; the buffer may
- * be longer. Places of bytes still to be pulled and bytes behind the message keep what they held. The frame is not needed
- * again. Numbers as for eos_read_header, then 12 to 16. */
+/* Starts the reassembly of a call: reads the frame, sorts its read list, writes its inline bytes and all padding to their
+ * places in the buffer, and stores the state. The message has as many bytes as the inline payload and the segments at
+ * position 0 together, and for each other position the bytes of its segments, rounded up together to a multiple of 4; the
+ * buffer may be longer. Places of bytes still to be pulled and bytes behind the message keep what they held. The frame is
+ * not needed again. Numbers as for eos_read_header, then 12 to 16. */
 uint32_t eos_start(const uint8_t *frame, size_t frame_len, uint8_t *out, size_t out_len, struct eos_state *state);
 
-/* Takes the next pulled bytes, cut as they come: the bytes of reads[0], then those of reads[1] and so on; an empty piece
- * at any time. Of the state, which is changed where it lies, only taken changes. Answers the number, and how many goes the
- * piece took. Numbers 17, 18. */
+/* Takes the next pulled bytes, cut as they come: the bytes of the state's reads[0], then those of reads[1] and so on; an
+ * empty piece at any time. Of the state, which is changed where it lies, only taken changes. Answers the number, and how
+ * many goes the piece took. Numbers 17, 18. */
 struct eos_piece_answer eos_take_piece(struct eos_state *state, const uint8_t *piece, size_t piece_len, uint8_t *out,
                                        size_t out_len);
 

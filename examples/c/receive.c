@@ -1,6 +1,7 @@
 /*
  * The whole way of a call through the library, as a server goes it: setup data at connect time, then for each frame the
- * header, the pulled bytes in pieces, the message, or the error reply. The frames are worked examples C3 and C6 to C9.
+ * header, the pulled bytes in pieces, the message, or the error reply. The frames are worked examples C3 and C6 to C9, and
+ * two calls whose read list is not sorted on the wire.
  */
 #include <eoswynnor.h>
 #include <inttypes.h>
@@ -9,9 +10,9 @@
 
 enum { CREDIT_LIMIT = 32, PIECE = 6 };
 
-/* The client's memory, as its segments name it: 01 to 0c at 0, a1 to a5 at 12, b1 to b4 at 17. */
-static const uint8_t client_memory[] = {1,    2,    3,    4,    5,    6,    7,    8,    9,    10,  11,
-                                        12,   0xa1, 0xa2, 0xa3, 0xa4, 0xa5, 0xb1, 0xb2, 0xb3, 0xb4};
+/* The client's memory by handle, as its segments name it. */
+static const uint8_t client_memory[][12] = {
+    {1, 2, 3, 4, 5, 6, 7, 8, 9, 10, 11, 12}, {0xa1, 0xa2, 0xa3, 0xa4, 0xa5}, {0xb1, 0xb2, 0xb3, 0xb4}};
 
 static void print_bytes(const char *what, const uint8_t *bytes, size_t length)
 {
@@ -26,11 +27,11 @@ static void print_bytes(const char *what, const uint8_t *bytes, size_t length)
 /* Stands for an RDMA Read of a part of a segment that the client registered. */
 static void rdma_read(struct eos_segment from, size_t done, uint8_t *into, size_t length)
 {
-    memcpy(into, client_memory + from.offset + done, length);
+    memcpy(into, client_memory[from.handle] + from.offset + done, length);
 }
 
-/* Reassembles a call in out. Answers 0 and how long the message is, or the number of the refusal. Prints each piece's
- * length and how many goes it took. */
+/* Reassembles a call in out. Answers 0 and how long the message is, or the number of the refusal. Prints of each piece its
+ * length, where it was pulled from and how many goes it took. */
 static uint32_t receive(const char *name, const uint8_t *frame, size_t frame_len, uint8_t *out, size_t out_len,
                         size_t *message_len)
 {
@@ -38,6 +39,7 @@ static uint32_t receive(const char *name, const uint8_t *frame, size_t frame_len
     uint32_t number = eos_start(frame, frame_len, out, out_len, &s);
     if (number != EOS_DONE)
         return number;
+    /* In the order of the state's list, which is sorted; the list in the header may not be. */
     for (uint32_t i = 0; i < s.read_count; i++) {
         struct eos_segment from = s.reads[i].target;
         for (size_t done = 0; done < from.length;) {
@@ -47,7 +49,7 @@ static uint32_t receive(const char *name, const uint8_t *frame, size_t frame_len
             struct eos_piece_answer answer = eos_take_piece(&s, piece, length, out, out_len);
             if (answer.number != EOS_DONE)
                 return answer.number;
-            printf("%s piece %zu goes %" PRIu32 "\n", name, length, answer.goes);
+            printf("%s piece %zu of handle %" PRIu32 " goes %" PRIu32 "\n", name, length, from.handle, answer.goes);
             done += length;
         }
     }
@@ -80,7 +82,8 @@ static void print_header(const char *name, const uint8_t *frame, size_t frame_le
     printf("%s header %" PRIu32 " kind %" PRIu32 " xid %" PRIx32 " credit %" PRIu32, name, number, h.kind, h.xid,
            h.credit);
     for (uint32_t i = 0; i < h.read_count; i++)
-        printf(" read %" PRIu32 " at %" PRIu32, h.reads[i].target.length, h.reads[i].position);
+        printf(" read %" PRIu32 " of handle %" PRIu32 " at %" PRIu32, h.reads[i].target.length,
+               h.reads[i].target.handle, h.reads[i].position);
     print_bytes("payload", frame + payload.offset, payload.length);
 }
 
@@ -101,9 +104,9 @@ static void connect_with(const uint8_t *private_data, size_t length)
 
 /* ---- The client's frames ---- */
 
-static struct eos_read_segment at(uint32_t position, uint32_t length, uint64_t offset)
+static struct eos_read_segment at(uint32_t position, uint32_t handle, uint32_t length, uint64_t offset)
 {
-    struct eos_read_segment r = {position, 0, {7, length, offset}};
+    struct eos_read_segment r = {position, 0, {handle, length, offset}};
     return r;
 }
 
@@ -121,7 +124,7 @@ static size_t call(uint32_t kind, const struct eos_read_segment *reads, uint32_t
     size_t length;
     if (eos_write_header(&h, frame, room, &length) != EOS_DONE || inline_len > room - length)
         return 0;
-    memcpy(frame + length, client_memory, inline_len);
+    memcpy(frame + length, client_memory[0], inline_len);
     return length + inline_len;
 }
 
@@ -129,9 +132,12 @@ int main(void)
 {
     static const uint8_t c10[] = {0xf6, 0xab, 0x0e, 0x18, 1, 1, 3, 7};
     static const char *const c7[] = {"C7 at 12", "C7 at 16", "C7 at 20", "C7 at 24"};
-    const struct eos_read_segment c6[] = {at(8, 5, 12)};
-    const struct eos_read_segment c8[] = {at(0, 12, 0), at(8, 5, 12)};
-    const struct eos_read_segment c9[] = {at(8, 2, 12), at(8, 3, 14)};
+    const struct eos_read_segment c6[] = {at(8, 1, 5, 0)};
+    const struct eos_read_segment c8[] = {at(0, 0, 12, 0), at(8, 1, 5, 0)};
+    const struct eos_read_segment c9[] = {at(8, 1, 2, 0), at(8, 1, 3, 2)};
+    /* C9's chunk with another chunk between its segments; C8 with its base last. */
+    const struct eos_read_segment unsorted[] = {at(8, 1, 2, 0), at(16, 2, 4, 0), at(8, 1, 3, 2)};
+    const struct eos_read_segment base_last[] = {at(8, 1, 5, 0), at(0, 0, 12, 0)};
     uint8_t frame[EOS_MAX_HEADER + 12];
     size_t length;
 
@@ -142,11 +148,15 @@ int main(void)
     print_header("C6", frame, length);
     serve("C6", frame, length);
     for (uint32_t i = 0; i < 4; i++) {
-        const struct eos_read_segment two[] = {at(8, 5, 12), at(12 + 4 * i, 4, 17)};
+        const struct eos_read_segment two[] = {at(8, 1, 5, 0), at(12 + 4 * i, 2, 4, 0)};
         serve(c7[i], frame, call(EOS_MSG, two, 2, 12, frame, sizeof frame));
     }
     serve("C8", frame, call(EOS_NOMSG, c8, 2, 0, frame, sizeof frame));
     serve("C9", frame, call(EOS_MSG, c9, 2, 12, frame, sizeof frame));
+    length = call(EOS_MSG, unsorted, 3, 12, frame, sizeof frame);
+    print_header("unsorted", frame, length);
+    serve("unsorted", frame, length);
+    serve("base last", frame, call(EOS_NOMSG, base_last, 2, 0, frame, sizeof frame));
 
     length = call(EOS_MSG, c6, 0, 0, frame, sizeof frame);
     frame[7] = 2;

@@ -1,6 +1,6 @@
 //! The whole way of a call through the library, as a server goes it: setup data at connect time, then for each frame the
-//! header, the pulled bytes in pieces, the message, or the error reply. The frames are worked examples C3 and C6 to C9.
-//! It prints what examples/c/receive.c prints.
+//! header, the pulled bytes in pieces, the message, or the error reply. The frames are worked examples C3 and C6 to C9, and
+//! two calls whose read list is not sorted on the wire. It prints what examples/c/receive.c prints.
 
 use eoswynnor::{error_reply, grant, payload, Assembly, Header, Kind, ReadSegment, Refusal, Segment, Setup};
 use eoswynnor::{MAX_HEADER, MAX_MESSAGE, MAX_REPLY};
@@ -8,9 +8,9 @@ use eoswynnor::{MAX_HEADER, MAX_MESSAGE, MAX_REPLY};
 const CREDIT_LIMIT: u32 = 32;
 const PIECE: usize = 6;
 
-/// The client's memory, as its segments name it: 01 to 0c at 0, a1 to a5 at 12, b1 to b4 at 17.
-const CLIENT_MEMORY: [u8; 21] =
-    [1, 2, 3, 4, 5, 6, 7, 8, 9, 10, 11, 12, 0xa1, 0xa2, 0xa3, 0xa4, 0xa5, 0xb1, 0xb2, 0xb3, 0xb4];
+/// The client's memory by handle, as its segments name it.
+const CLIENT_MEMORY: [&[u8]; 3] =
+    [&[1, 2, 3, 4, 5, 6, 7, 8, 9, 10, 11, 12], &[0xa1, 0xa2, 0xa3, 0xa4, 0xa5], &[0xb1, 0xb2, 0xb3, 0xb4]];
 
 fn hex(bytes: &[u8]) -> String {
     bytes.iter().map(|byte| format!("{byte:02x}")).collect()
@@ -18,16 +18,17 @@ fn hex(bytes: &[u8]) -> String {
 
 /// Stands for an RDMA Read of a segment that the client registered.
 fn rdma_read(from: Segment) -> &'static [u8] {
-    &CLIENT_MEMORY[from.offset as usize..][..from.length as usize]
+    &CLIENT_MEMORY[from.handle as usize][from.offset as usize..][..from.length as usize]
 }
 
-/// Reassembles a call in a buffer. Prints each piece's length and how many goes it took.
+/// Reassembles a call in a buffer. Prints of each piece its length, where it was pulled from and how many goes it took.
 fn receive<'a>(name: &str, frame: &[u8], out: &'a mut [u8]) -> Result<Assembly<'a>, Refusal> {
     let mut assembly = Assembly::start(frame, out)?;
+    // In the order of the assembly's list, which is sorted; the list in the header may not be.
     for read in assembly.reads().to_vec() {
         for piece in rdma_read(read.target).chunks(PIECE) {
             let goes = assembly.take(piece)?;
-            println!("{name} piece {} goes {goes}", piece.len());
+            println!("{name} piece {} of handle {} goes {goes}", piece.len(), read.target.handle);
         }
     }
     Ok(assembly)
@@ -60,7 +61,7 @@ fn print_header(name: &str, frame: &[u8]) -> Result<(), Refusal> {
     };
     print!("{name} header 0 kind {kind} xid {:x} credit {}", header.xid, header.credit);
     for read in &header.reads {
-        print!(" read {} at {}", read.target.length, read.position);
+        print!(" read {} of handle {} at {}", read.target.length, read.target.handle, read.position);
     }
     let inline = payload(frame);
     println!(" payload {} {}", inline.len(), hex(inline));
@@ -79,8 +80,8 @@ fn connect_with(private_data: &[u8]) -> Result<(), Refusal> {
     Ok(())
 }
 
-fn at(position: u32, length: u32, offset: u64) -> ReadSegment {
-    ReadSegment { position, target: Segment { handle: 7, length, offset } }
+fn at(position: u32, handle: u32, length: u32, offset: u64) -> ReadSegment {
+    ReadSegment { position, target: Segment { handle, length, offset } }
 }
 
 /// The client's frame: a call with these read segments and these bytes inline.
@@ -95,20 +96,25 @@ fn call(kind: Kind, reads: &[ReadSegment], inline: &[u8]) -> Result<Vec<u8>, Ref
 
 fn main() -> Result<(), Refusal> {
     let c10 = [0xf6, 0xab, 0x0e, 0x18, 1, 1, 3, 7];
-    let inline = &CLIENT_MEMORY[..12];
+    let inline = CLIENT_MEMORY[0];
 
     connect_with(&c10)?;
     connect_with(&c10[..7])?;
 
-    let c6 = call(Kind::Msg, &[at(8, 5, 12)], inline)?;
+    let c6 = call(Kind::Msg, &[at(8, 1, 5, 0)], inline)?;
     print_header("C6", &c6)?;
     serve("C6", &c6)?;
     for position in [12, 16, 20, 24] {
-        let c7 = call(Kind::Msg, &[at(8, 5, 12), at(position, 4, 17)], inline)?;
+        let c7 = call(Kind::Msg, &[at(8, 1, 5, 0), at(position, 2, 4, 0)], inline)?;
         serve(&format!("C7 at {position}"), &c7)?;
     }
-    serve("C8", &call(Kind::Nomsg, &[at(0, 12, 0), at(8, 5, 12)], &[])?)?;
-    serve("C9", &call(Kind::Msg, &[at(8, 2, 12), at(8, 3, 14)], inline)?)?;
+    serve("C8", &call(Kind::Nomsg, &[at(0, 0, 12, 0), at(8, 1, 5, 0)], &[])?)?;
+    serve("C9", &call(Kind::Msg, &[at(8, 1, 2, 0), at(8, 1, 3, 2)], inline)?)?;
+    // C9's chunk with another chunk between its segments; C8 with its base last.
+    let unsorted = call(Kind::Msg, &[at(8, 1, 2, 0), at(16, 2, 4, 0), at(8, 1, 3, 2)], inline)?;
+    print_header("unsorted", &unsorted)?;
+    serve("unsorted", &unsorted)?;
+    serve("base last", &call(Kind::Nomsg, &[at(8, 1, 5, 0), at(0, 0, 12, 0)], &[])?)?;
 
     let mut c3 = call(Kind::Msg, &[], &[])?;
     c3[7] = 2;

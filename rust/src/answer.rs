@@ -2,7 +2,7 @@
 
 use std::fmt;
 
-/// The number of a refusal, 1 to 21 or 26.
+/// The number of a refusal, 1 to 21 or 26; 8 is reserved and never given.
 #[derive(Clone, Copy, Debug, PartialEq, Eq)]
 pub struct Refusal(pub u32);
 
@@ -17,7 +17,7 @@ const TEXTS: [&str; 27] = [
     "frame ends inside a field that must be there",
     "a marker word above 1",
     "an entry or count that goes over a limit",
-    "a read position below the one before it",
+    "reserved: never given",
     "a read position that is no multiple of 4",
     "error code neither 1 nor 2",
     "bytes behind a NOMSG or ERROR header",

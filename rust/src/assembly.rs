@@ -20,7 +20,8 @@ pub struct Assembly<'a> {
 }
 
 impl<'a> Assembly<'a> {
-    /// Starts the reassembly of a call in a buffer that holds its message, or [`MAX_MESSAGE`] bytes. Numbers 1 to 16.
+    /// Starts the reassembly of a call in a buffer that holds its message, or [`MAX_MESSAGE`] bytes. Numbers 1 to 7 and
+    /// 9 to 16.
     pub fn start(frame: &[u8], out: &'a mut [u8]) -> Result<Assembly<'a>, Refusal> {
         let state = stored::<ffi::State>(|state| unsafe {
             ffi::eos_start(frame.as_ptr(), frame.len(), out.as_mut_ptr(), out.len(), state)
@@ -28,7 +29,8 @@ impl<'a> Assembly<'a> {
         Ok(Assembly { reads: state.reads.map(ReadSegment::from), state, out })
     }
 
-    /// What is to be pulled, in this order.
+    /// What is to be pulled, in this order: the frame's read list sorted by position, segments of one position in wire
+    /// order. The list of a [`Header`](crate::Header) that was read may have another order.
     pub fn reads(&self) -> &[ReadSegment] {
         &self.reads[..self.state.read_count as usize]
     }
@@ -43,9 +45,10 @@ impl<'a> Assembly<'a> {
         self.reads().iter().map(|read| read.target.length as usize).sum::<usize>() - self.state.taken
     }
 
-    /// Takes the next pulled bytes, cut as they come; answers how many goes it took to place them: the fewest runs that
-    /// make the piece up, each of one segment and with no gap between its places in the message. At most [`MAX_GOES`],
-    /// and 0 for an empty piece. A refused piece changes nothing and takes none. Number 18.
+    /// Takes the next pulled bytes, in the order of [`Assembly::reads`] and cut as they come; answers how many goes it
+    /// took to place them: the fewest runs that make the piece up, each of one segment and with no gap between its places
+    /// in the message. At most [`MAX_GOES`], and 0 for an empty piece. A refused piece changes nothing and takes none.
+    /// Number 18.
     pub fn take(&mut self, piece: &[u8]) -> Result<u32, Refusal> {
         let Assembly { state, out, .. } = self;
         let answer =

@@ -27,6 +27,7 @@ pub const ERROR_CHUNK: u32 = 3;
 #[repr(C)]
 #[derive(Clone, Copy, Debug, Default, PartialEq, Eq)]
 pub struct Header {
+    /// In wire order.
     pub reads: [ReadSegment; 16],
     pub writes: [Segment; 16],
     pub reply: [Segment; 16],
@@ -69,6 +70,7 @@ pub struct Agreement {
 #[repr(C)]
 #[derive(Clone, Copy, Debug, Default, PartialEq, Eq)]
 pub struct State {
+    /// Sorted by position, segments of one position in wire order.
     pub reads: [ReadSegment; 16],
     pub base: usize,
     pub buffer: usize,

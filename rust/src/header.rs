@@ -41,13 +41,14 @@ pub struct Header {
     pub xid: u32,
     pub credit: u32,
     pub kind: Kind,
+    /// In wire order, which may be any order of position.
     pub reads: Vec<ReadSegment>,
     pub writes: Vec<Vec<Segment>>,
     pub reply: Option<Vec<Segment>>,
 }
 
 impl Header {
-    /// Reads the header of a frame. Numbers 1 to 11.
+    /// Reads the header of a frame. Numbers 1 to 7 and 9 to 11.
     pub fn read(frame: &[u8]) -> Result<Header, Refusal> {
         let flat =
             stored::<ffi::Header>(|flat| unsafe { ffi::eos_read_header(frame.as_ptr(), frame.len(), flat) })?;
@@ -69,8 +70,8 @@ impl Header {
         })
     }
 
-    /// Writes the header to the front of a buffer; answers its length. An inline payload goes right behind it. Numbers 12, 7, 9,
-    /// 8, 16.
+    /// Writes the header to the front of a buffer; answers its length. An inline payload goes right behind it. Numbers 12,
+    /// 7, 9, 16.
     pub fn write(&self, out: &mut [u8]) -> Result<usize, Refusal> {
         stored(|length| unsafe { ffi::eos_write_header(&self.flat(), out.as_mut_ptr(), out.len(), length) })
     }

@@ -1,4 +1,4 @@
-//! Headers: lists to C structs and back, and the refusals of lists that are too long.
+//! Headers: lists to C structs and back in wire order, and the refusals of lists that are too long.
 
 mod common;
 
@@ -31,6 +31,43 @@ fn headers_read_back() {
     }
     assert_eq!(written(&full()).len(), 960);
     assert_eq!(payload(&c6()), (1..=12).collect::<Vec<u8>>());
+}
+
+/// The bytes of a MSG frame with empty read segments at these positions.
+fn frame_of(positions: &[u32]) -> Vec<u8> {
+    let entry = |(n, &position)| [1, position, n, 0, 0, 0];
+    let entries = (0..).zip(positions).flat_map(entry);
+    [0x2a, 1, 0x20, 0].into_iter().chain(entries).chain([0; 3]).flat_map(u32::to_be_bytes).collect()
+}
+
+#[test]
+fn a_list_keeps_wire_order() {
+    let sixteen: Vec<u32> = (0..16).rev().map(|n| 4 * n).collect();
+    for positions in [&[8, 4][..], &[8, 4, 8], &[4, 4, 0], &sixteen] {
+        let frame = frame_of(positions);
+        let header = Header::read(&frame).unwrap();
+        let reads = header.reads.iter().map(|read| (read.position, read.target.handle));
+        assert!(reads.eq(positions.iter().copied().zip(0..)), "{positions:?}");
+        assert_eq!(written(&header), frame, "{positions:?}");
+    }
+}
+
+#[test]
+fn positions_are_multiples_of_4_in_any_order() {
+    let read = |positions: &[u32]| Header::read(&frame_of(positions)).map(|header| header.reads.len());
+    let mut seventeen = [0; 17];
+    assert_eq!(read(&seventeen[..16]), Ok(16));
+    assert_eq!(read(&[8, 6]), Err(Refusal(9)), "below the one before, too");
+    assert_eq!(read(&[8, 4, 6]), Err(Refusal(9)));
+    seventeen[16] = 2;
+    assert_eq!(read(&seventeen), Err(Refusal(7)), "a seventeenth, unaligned");
+    seventeen[15] = 2;
+    assert_eq!(read(&seventeen), Err(Refusal(9)), "the sixteenth comes first");
+
+    let mut header = Header::read(&frame_of(&[8, 4])).unwrap();
+    assert_eq!(header.write(&mut [0; 75]), Err(Refusal(16)));
+    header.reads[1].position = 6;
+    assert_eq!(header.write(&mut [0; 75]), Err(Refusal(9)));
 }
 
 #[test]

@@ -9,6 +9,8 @@ use eoswynnor::{error_reply, grant, Refusal, MAX_REPLY};
 fn replies_and_refusals() {
     let mut room = [0; MAX_REPLY];
     assert_eq!(error_reply(&c6(), Refusal(14), 32, &mut room).map(<[u8]>::len), Ok(20));
+    // 8 is never given, and still has its reply.
+    assert_eq!(error_reply(&c6(), Refusal(8), 32, &mut room).map(<[u8]>::len), Ok(20));
     assert_eq!(error_reply(&c6(), Refusal(2), 32, &mut room).map(<[u8]>::len), Ok(28));
     assert_eq!(error_reply(&c6(), Refusal(19), 32, &mut room), Ok(&[][..]));
     assert_eq!(error_reply(&c6(), Refusal(2), 32, &mut room[..27]), Err(Refusal(16)));
@@ -22,6 +24,7 @@ fn grants() {
 
 #[test]
 fn a_refusal_has_its_text() {
+    assert_eq!(Refusal(8).to_string(), "reserved: never given");
     assert_eq!(Refusal(14).to_string(), "a chunk's position overlaps or lies past the base");
     assert_eq!(Refusal(21).to_string(), "a header to be written is longer than 1,024 bytes");
     assert_eq!(Refusal(26).to_string(), "a reply that cannot answer the header that was sent");

@@ -2,9 +2,9 @@
  * What the programs of random calls share: random numbers, buffers of just their length, and frames.
  *
  * Each lent buffer has just its length: under AddressSanitizer on the heap; else it ends at a page that nobody may touch,
- * which the library's own loads and stores meet too. Checked is what is cheap to say: numbers of the call's own, parts
- * within bounds, nothing changed by a refusal or that is only read, what was written reads back, and any cuts give what
- * one piece gives.
+ * which the library's own loads and stores meet too. Checked is what is cheap to say: the number, or that it is one of the
+ * call's own; parts within bounds, nothing changed by a refusal or that is only read, what was written reads back, and any
+ * cuts give what one piece gives.
  */
 #ifndef RANDOM_H
 #define RANDOM_H
@@ -181,7 +181,41 @@ static inline void add_chunk(struct eos_header *h, uint32_t position, uint32_t l
     }
 }
 
-/* A header that mostly can be written, and whose read list mostly stands over this base. */
+static inline void exchange(struct eos_read_segment *a, struct eos_read_segment *b)
+{
+    struct eos_read_segment was = *a;
+    *a = *b;
+    *b = was;
+}
+
+/* A sorted read list in one of the orders that may come on the wire. */
+static inline void rearrange(struct eos_read_segment *reads, uint32_t count)
+{
+    struct eos_read_segment was[EOS_MAX_READ_SEGMENTS];
+    uint32_t first = below(count + 1);
+    memcpy(was, reads, count * sizeof *reads);
+    switch (below(5)) {
+    case 0: /* falling */
+        for (uint32_t i = 0; i < count; i++)
+            reads[i] = was[count - 1 - i];
+        break;
+    case 1: /* in any order */
+        for (uint32_t i = count; i > 1; i--)
+            exchange(&reads[i - 1], &reads[below(i)]);
+        break;
+    case 2: /* segments of one position apart: every other one, then the rest */
+        for (uint32_t i = 0; i < count; i++)
+            reads[i] = was[2 * i < count ? 2 * i : 2 * (i - (count + 1) / 2) + 1];
+        break;
+    case 3: /* the first ones last, those at position 0 among them */
+        for (uint32_t i = 0; i < count; i++)
+            reads[i] = was[(i + first) % count];
+        break;
+    default: break;
+    }
+}
+
+/* A header that mostly can be written, and whose read list mostly stands over this base, in any order. */
 static inline struct eos_header some_header(uint32_t base)
 {
     struct eos_header h = {0};
@@ -203,6 +237,7 @@ static inline struct eos_header some_header(uint32_t base)
             add_chunk(&h, position, length);
             position += (length + 3) / 4 * 4;
         }
+        rearrange(h.reads, h.read_count);
         h.write_chunks = below(EOS_MAX_WRITE_CHUNKS + 1);
         for (uint32_t i = 0; i < h.write_chunks; i++)
             room -= h.write_counts[i] = below(room + 1);
@@ -220,6 +255,12 @@ static inline uint32_t edge(void)
 {
     static const uint32_t edges[] = {0, 1, 2, 3, 4, 5, 8, 16, 17, 1048576, 1048580, 0x7fffffff, 0x80000000, 0xffffffff};
     return below(4) ? edges[below(sizeof edges / sizeof *edges)] : (uint32_t)any();
+}
+
+static inline uint32_t word_at(struct lent frame, size_t place)
+{
+    const uint8_t *b = frame.bytes + place;
+    return (uint32_t)b[0] << 24 | (uint32_t)b[1] << 16 | (uint32_t)b[2] << 8 | b[3];
 }
 
 static inline void put_word(struct lent frame, size_t place, uint32_t word)

@@ -1,6 +1,18 @@
 /* random_reply [ROUNDS [SEED]]: grants and error replies, on random, written and damaged frames. */
 #include "random.h"
 
+/* 3, 5 to 9 and 11 to 15. */
+#define CHUNK_NUMBERS \
+    (UP_TO(EOS_MESSAGE_LONG) & ~UP_TO(EOS_OTHER_VERSION) & ~BIT(EOS_DONE_RECEIVED) & ~BIT(EOS_OTHER_ERROR_CODE))
+
+/* How long the reply is, if it has room: 8 has one though it is never given. */
+static size_t reply_length(struct lent frame, uint32_t number)
+{
+    if (frame.length < 16 || word_at(frame, 12) == 4)
+        return 0;
+    return number == EOS_OTHER_VERSION ? EOS_MAX_REPLY : CHUNK_NUMBERS & BIT(number) ? 20 : 0;
+}
+
 static void reply_one(struct lent frame, uint32_t number)
 {
     uint32_t limit = edge();
@@ -13,7 +25,10 @@ static void reply_one(struct lent frame, uint32_t number)
     length = stored(done, ROOM_NUMBERS, before, length);
     CHECK((done == EOS_BAD_ARGUMENT) == (number > EOS_HEADER_LONG || limit == 0));
     CHECK(length <= out.length && same_behind(out, was, length));
-    CHECK(length == 0 || length == 20 || length == EOS_MAX_REPLY);
+    if (done != EOS_BAD_ARGUMENT)
+        CHECK((done == EOS_BUFFER_SHORT) == (reply_length(frame, number) > out.length));
+    if (done == EOS_DONE)
+        CHECK(length == reply_length(frame, number));
     if (length > 0) {
         struct eos_header h;
         CHECK(eos_read_header(out.bytes, length, &h) == EOS_DONE && memcmp(out.bytes, frame.bytes, 4) == 0);

@@ -1,4 +1,4 @@
-/* Every call on worked examples C1 to C13, and on goes and replies worked by hand, as C sees them. */
+/* Every call on worked examples C1 to C13, and on goes, orders and replies worked by hand, as C sees them. */
 #include <eoswynnor.h>
 #include <stdio.h>
 #include <string.h>
@@ -72,6 +72,9 @@ static void replying(void)
     EXPECT(eos_error_reply(frame, sizeof frame, EOS_BAD_MARKER, 7, out, sizeof out, &length) == EOS_DONE);
     EXPECT(length == 20 && out[11] == 7);
     EXPECT(eos_read_header(out, 20, &h) == EOS_DONE && h.kind == EOS_ERROR_CHUNK);
+    /* 8 is never given, and still has its reply. */
+    EXPECT(eos_error_reply(frame, sizeof frame, EOS_POSITION_FALLS, 7, out, sizeof out, &length) == EOS_DONE);
+    EXPECT(length == 20 && eos_read_header(out, 20, &h) == EOS_DONE && h.kind == EOS_ERROR_CHUNK);
     EXPECT(eos_error_reply(frame, sizeof frame, EOS_DONE, 32, out, 0, &length) == EOS_DONE && length == 0);
 }
 
@@ -253,6 +256,218 @@ static void counting(void)
     }
 }
 
+/* Numbers of the read list of a frame: positions of its entries, the marker behind them, and how many bytes of the frame
+ * come. C6's bytes are inline. */
+enum { WHOLE = 999 };
+static const struct worked_entries {
+    const char *name;
+    uint32_t count, positions[EOS_MAX_READ_SEGMENTS + 1], marker, length, number;
+} worked_entries[] = {
+    {"read: 8 then 4", 2, {8, 4}, 0, WHOLE, EOS_DONE},
+    {"read: 8, 4, 8", 3, {8, 4, 8}, 0, WHOLE, EOS_DONE},
+    {"read: unaligned and below the one before", 2, {8, 6}, 0, WHOLE, EOS_POSITION_UNALIGNED},
+    {"read: below the one before, then unaligned", 3, {8, 4, 6}, 0, WHOLE, EOS_POSITION_UNALIGNED},
+    {"read: below the one before, then a marker of 2", 2, {8, 4}, 2, WHOLE, EOS_BAD_MARKER},
+    {"read: unaligned, then a marker of 2", 2, {8, 6}, 2, WHOLE, EOS_POSITION_UNALIGNED},
+    {"read: unaligned, then an entry cut short", 2, {6, 4}, 0, 63, EOS_POSITION_UNALIGNED},
+    {"read: an unaligned entry cut short", 2, {8, 6}, 0, 63, EOS_ENDS_INSIDE_FIELD},
+    {"read: a seventeenth, unaligned", 17, {[16] = 6}, 0, WHOLE, EOS_OVER_LIMIT},
+    {"read: the sixteenth unaligned, and one more", 17, {[15] = 6}, 0, WHOLE, EOS_POSITION_UNALIGNED},
+    {"read: sixteen that fall, and one more", 17, {64, 60, 56, 52, 48, 44, 40, 36, 32, 28, 24, 20, 16, 12, 8, 4, 0},
+     0, WHOLE, EOS_OVER_LIMIT},
+};
+
+static void entries(void)
+{
+    for (size_t i = 0; i < sizeof worked_entries / sizeof *worked_entries; i++) {
+        const struct worked_entries *w = &worked_entries[i];
+        uint8_t frame[16 + 24 * (EOS_MAX_READ_SEGMENTS + 1) + 12 + 12] = {0}, out[12], *next = frame + 16;
+        struct eos_header h;
+        struct eos_state s;
+        memcpy(frame, c2, 16);
+        for (uint32_t j = 0; j < w->count; j++, next += 24) {
+            next[3] = 1;
+            next[7] = (uint8_t)w->positions[j];
+        }
+        next[3] = (uint8_t)w->marker;
+        memcpy(next + 12, c6 + 52, 12);
+        size_t length = w->length == WHOLE ? (size_t)(next - frame) + 24 : w->length;
+        EXPECT_OF(w->name, eos_read_header(frame, length, &h) == w->number);
+        EXPECT_OF(w->name, eos_start(frame, length, out, sizeof out, &s) == w->number);
+    }
+
+    /* In writing: 12, 7, then 9 entry by entry, then 16. */
+    struct eos_header h = {.read_count = 2, .reads = {{.position = 8}, {.position = 4}}};
+    uint8_t out[76];
+    size_t length = 99;
+    EXPECT(eos_write_header(&h, out, 75, &length) == EOS_BUFFER_SHORT && length == 99);
+    EXPECT(eos_write_header(&h, out, 76, &length) == EOS_DONE && length == 76);
+    EXPECT(out[23] == 8 && out[47] == 4);
+    h.reads[1].position = 6;
+    EXPECT(eos_write_header(&h, out, 0, &length) == EOS_POSITION_UNALIGNED);
+    h.read_count = EOS_MAX_READ_SEGMENTS + 1;
+    EXPECT(eos_write_header(&h, out, 0, &length) == EOS_OVER_LIMIT);
+    h.kind = EOS_ERROR_CHUNK;
+    EXPECT(eos_write_header(&h, out, 0, &length) == EOS_KIND_AND_LISTS && length == 76);
+}
+
+/* Calls by their read list on the wire: position, handle and length of each segment. Handle 0 holds 01 to 0c, which are
+ * inline in MSG; handle a holds a1, a2 and so on. */
+static const struct worked_order {
+    const char *name;
+    uint32_t kind, read_count, reads[EOS_MAX_READ_SEGMENTS][3];
+    uint32_t number;                         /* of the start */
+    uint32_t handles[EOS_MAX_READ_SEGMENTS]; /* as they are pulled */
+    uint32_t in_state;                       /* what a state gets with the list as on the wire: 0 if that is sorted */
+    size_t length;
+    uint8_t message[72];
+} worked_orders[] = {
+    {"8 then 4", EOS_MSG, 2, {{8, 0xa, 4}, {4, 0xb, 4}}, EOS_DONE, {0xb, 0xa}, EOS_STATE_UNFIT, 20,
+     {1, 2, 3, 4, 0xb1, 0xb2, 0xb3, 0xb4, 0xa1, 0xa2, 0xa3, 0xa4, 5, 6, 7, 8, 9, 10, 11, 12}},
+    {"8, 4, 8: one chunk at 8", EOS_MSG, 3, {{8, 0xa, 2}, {4, 0xb, 4}, {8, 0xc, 3}}, EOS_DONE, {0xb, 0xa, 0xc},
+     EOS_STATE_UNFIT, 24,
+     {1, 2, 3, 4, 0xb1, 0xb2, 0xb3, 0xb4, 0xa1, 0xa2, 0xc1, 0xc2, 0xc3, 0, 0, 0, 5, 6, 7, 8, 9, 10, 11, 12}},
+    {"8, 4, 8, handles falling", EOS_MSG, 3, {{8, 0xc, 3}, {4, 0xb, 4}, {8, 0xa, 2}}, EOS_DONE, {0xb, 0xc, 0xa},
+     EOS_STATE_UNFIT, 24,
+     {1, 2, 3, 4, 0xb1, 0xb2, 0xb3, 0xb4, 0xc1, 0xc2, 0xc3, 0xa1, 0xa2, 0, 0, 0, 5, 6, 7, 8, 9, 10, 11, 12}},
+    {"the base last", EOS_NOMSG, 2, {{8, 0xa, 5}, {0, 0, 12}}, EOS_DONE, {0, 0xa}, EOS_STATE_UNFIT, 20,
+     {1, 2, 3, 4, 5, 6, 7, 8, 0xa1, 0xa2, 0xa3, 0xa4, 0xa5, 0, 0, 0, 9, 10, 11, 12}},
+    {"a segment of the base last", EOS_NOMSG, 3, {{0, 0, 8}, {8, 0xa, 5}, {0, 0xd, 4}}, EOS_DONE, {0, 0xd, 0xa},
+     EOS_STATE_UNFIT, 20, {1, 2, 3, 4, 5, 6, 7, 8, 0xa1, 0xa2, 0xa3, 0xa4, 0xa5, 0, 0, 0, 0xd1, 0xd2, 0xd3, 0xd4}},
+    {"one position: as it came", EOS_MSG, 3, {{8, 0xc, 1}, {8, 0xa, 2}, {8, 0xb, 2}}, EOS_DONE, {0xc, 0xa, 0xb}, EOS_DONE,
+     20, {1, 2, 3, 4, 5, 6, 7, 8, 0xc1, 0xa1, 0xa2, 0xb1, 0xb2, 0, 0, 0, 9, 10, 11, 12}},
+    {"C6: unused places stay behind", EOS_MSG, 1, {{8, 0xa, 5}}, EOS_DONE, {0xa}, EOS_DONE, 20,
+     {1, 2, 3, 4, 5, 6, 7, 8, 0xa1, 0xa2, 0xa3, 0xa4, 0xa5, 0, 0, 0, 9, 10, 11, 12}},
+    {"C8: unused places stay behind", EOS_NOMSG, 2, {{0, 0, 12}, {8, 0xa, 5}}, EOS_DONE, {0, 0xa}, EOS_DONE, 20,
+     {1, 2, 3, 4, 5, 6, 7, 8, 0xa1, 0xa2, 0xa3, 0xa4, 0xa5, 0, 0, 0, 9, 10, 11, 12}},
+    {"an empty segment between", EOS_MSG, 3, {{8, 0xa, 0}, {4, 0xb, 0}, {8, 0xc, 4}}, EOS_DONE, {0xb, 0xa, 0xc},
+     EOS_STATE_UNFIT, 16, {1, 2, 3, 4, 5, 6, 7, 8, 0xc1, 0xc2, 0xc3, 0xc4, 9, 10, 11, 12}},
+    {"C7 at 12, exchanged", EOS_MSG, 2, {{12, 0xb, 4}, {8, 0xa, 5}}, EOS_CHUNK_OVERLAPS, {0}, 0, 0, {0}},
+    {"C7 at 16, exchanged", EOS_MSG, 2, {{16, 0xb, 4}, {8, 0xa, 5}}, EOS_DONE, {0xa, 0xb}, EOS_STATE_UNFIT, 24,
+     {1, 2, 3, 4, 5, 6, 7, 8, 0xa1, 0xa2, 0xa3, 0xa4, 0xa5, 0, 0, 0, 0xb1, 0xb2, 0xb3, 0xb4, 9, 10, 11, 12}},
+    {"C7 at 20, exchanged", EOS_MSG, 2, {{20, 0xb, 4}, {8, 0xa, 5}}, EOS_DONE, {0xa, 0xb}, EOS_STATE_UNFIT, 24,
+     {1, 2, 3, 4, 5, 6, 7, 8, 0xa1, 0xa2, 0xa3, 0xa4, 0xa5, 0, 0, 0, 9, 10, 11, 12, 0xb1, 0xb2, 0xb3, 0xb4}},
+    {"C7 at 24, exchanged", EOS_MSG, 2, {{24, 0xb, 4}, {8, 0xa, 5}}, EOS_CHUNK_OVERLAPS, {0}, 0, 0, {0}},
+    {"position 0 behind another, in MSG", EOS_MSG, 2, {{8, 0xa, 4}, {0, 0, 4}}, EOS_KIND_AND_LISTS, {0}, 0, 0, {0}},
+    {"sixteen that fall", EOS_NOMSG, 16, {{60, 15, 4}, {56, 14, 4}, {52, 13, 4}, {48, 12, 4}, {44, 11, 4}, {40, 10, 4},
+                                          {36, 9, 4}, {32, 8, 4}, {28, 7, 4}, {24, 6, 4}, {20, 5, 4}, {16, 4, 4},
+                                          {12, 3, 4}, {8, 2, 4}, {4, 1, 4}, {0, 0, 12}},
+     EOS_DONE, {0, 1, 2, 3, 4, 5, 6, 7, 8, 9, 10, 11, 12, 13, 14, 15}, EOS_STATE_UNFIT, 72,
+     {1, 2, 3, 4, 0x11, 0x12, 0x13, 0x14, 0x21, 0x22, 0x23, 0x24, 0x31, 0x32, 0x33, 0x34, 0x41, 0x42, 0x43, 0x44,
+      0x51, 0x52, 0x53, 0x54, 0x61, 0x62, 0x63, 0x64, 0x71, 0x72, 0x73, 0x74, 0x81, 0x82, 0x83, 0x84,
+      0x91, 0x92, 0x93, 0x94, 0xa1, 0xa2, 0xa3, 0xa4, 0xb1, 0xb2, 0xb3, 0xb4, 0xc1, 0xc2, 0xc3, 0xc4,
+      0xd1, 0xd2, 0xd3, 0xd4, 0xe1, 0xe2, 0xe3, 0xe4, 0xf1, 0xf2, 0xf3, 0xf4, 5, 6, 7, 8, 9, 10, 11, 12}},
+};
+
+/* Whether a piece of one byte, one of none, one that is too long and an asking all get 17, and nothing is changed. */
+static int unfit(struct eos_state s, const uint8_t *buffer, size_t buffer_len)
+{
+    static const uint8_t piece[128] = {0};
+    static const size_t lengths[] = {1, 0, sizeof piece};
+    uint8_t out[sizeof piece];
+    size_t length = 99;
+    struct eos_state was = s;
+    int all = 1;
+    memcpy(out, buffer, buffer_len);
+    for (size_t i = 0; i < 3; i++)
+        all &= answers(eos_take_piece(&s, piece, lengths[i], out, buffer_len), EOS_STATE_UNFIT, 0);
+    all &= eos_message(&s, out, buffer_len, &length) == EOS_STATE_UNFIT && length == 99;
+    return all && memcmp(&s, &was, sizeof s) == 0 && memcmp(out, buffer, buffer_len) == 0;
+}
+
+/* Writes such a call: reader and writer keep wire order, and the writer does not look at unused places. Answers the frame's
+ * length. */
+static size_t on_the_wire(const struct worked_order *w, struct eos_header *h, uint8_t *frame, size_t room)
+{
+    uint8_t again[EOS_MAX_HEADER];
+    size_t length = 0, again_length = 0;
+    struct eos_header given, back;
+    memset(h, 0, sizeof *h);
+    h->kind = w->kind;
+    h->read_count = w->read_count;
+    for (uint32_t i = 0; i < w->read_count; i++)
+        h->reads[i] = (struct eos_read_segment){w->reads[i][0], 0, {w->reads[i][1], w->reads[i][2], i}};
+    given = *h;
+    memset(given.reads + w->read_count, 1, (EOS_MAX_READ_SEGMENTS - w->read_count) * sizeof *given.reads);
+    EXPECT_OF(w->name, eos_write_header(&given, frame, room - 12, &length) == EOS_DONE);
+    EXPECT_OF(w->name, eos_read_header(frame, length, &back) == EOS_DONE && memcmp(&back, h, sizeof back) == 0);
+    EXPECT_OF(w->name, eos_write_header(&back, again, sizeof again, &again_length) == EOS_DONE);
+    EXPECT_OF(w->name, again_length == length && memcmp(again, frame, length) == 0);
+    memcpy(frame + length, c6 + 52, 12);
+    return length + (w->kind == EOS_MSG ? 12 : 0);
+}
+
+/* Pulls by the state's list. Its unused places may hold anything, and are kept. */
+static void pull(const struct worked_order *w, const struct eos_header *h, struct eos_state *s, uint8_t *out,
+                 size_t out_len)
+{
+    struct eos_state was;
+    size_t sum = 0;
+    memset(s->reads + w->read_count, 1, (EOS_MAX_READ_SEGMENTS - w->read_count) * sizeof *s->reads);
+    was = *s;
+    for (uint32_t i = 0; i < w->read_count; i++) {
+        uint8_t piece[12];
+        uint32_t sent = 0;
+        while (sent + 1 < w->read_count && h->reads[sent].target.handle != w->handles[i])
+            sent++;
+        EXPECT_OF(w->name, memcmp(&s->reads[i], &h->reads[sent], sizeof *s->reads) == 0);
+        for (uint32_t j = 0; j < sizeof piece; j++)
+            piece[j] = (uint8_t)(16 * s->reads[i].target.handle + 1 + j);
+        sum += h->reads[sent].target.length;
+        EXPECT_OF(w->name, eos_take_piece(s, piece, h->reads[sent].target.length, out, out_len).number == EOS_DONE);
+    }
+    was.taken = sum;
+    EXPECT_OF(w->name, memcmp(s, &was, sizeof was) == 0);
+}
+
+static void order(const struct worked_order *w)
+{
+    static const struct eos_read_segment none[EOS_MAX_READ_SEGMENTS];
+    uint8_t frame[EOS_MAX_HEADER + 12], out[76];
+    struct eos_header h;
+    struct eos_state s, wire, was;
+    size_t length = on_the_wire(w, &h, frame, sizeof frame);
+    memset(out, 0xee, sizeof out);
+    memset(&s, 0xee, sizeof s);
+    was = s;
+    EXPECT_OF(w->name, eos_start(frame, length, out, sizeof out, &s) == w->number);
+    if (w->number != EOS_DONE) {
+        EXPECT_OF(w->name, memcmp(&s, &was, sizeof s) == 0 && out[0] == 0xee);
+        return;
+    }
+    EXPECT_OF(w->name, s.read_count == w->read_count);
+    EXPECT_OF(w->name, memcmp(s.reads + w->read_count, none, (16 - w->read_count) * sizeof *none) == 0);
+
+    wire = s;
+    memcpy(wire.reads, h.reads, sizeof wire.reads);
+    EXPECT_OF(w->name, w->in_state == EOS_DONE || unfit(wire, out, sizeof out));
+    pull(w, &h, &s, out, sizeof out);
+    EXPECT_OF(w->name, eos_message(&s, out, sizeof out, &length) == EOS_DONE && length == w->length);
+    EXPECT_OF(w->name, memcmp(out, w->message, w->length) == 0 && out[w->length] == 0xee);
+    /* With all bytes in, too. */
+    wire.taken = s.taken;
+    EXPECT_OF(w->name, w->in_state == EOS_DONE || unfit(wire, out, sizeof out));
+}
+
+static void ordering(void)
+{
+    for (size_t i = 0; i < sizeof worked_orders / sizeof *worked_orders; i++)
+        order(&worked_orders[i]);
+
+    /* Segments of one position are sorted in either order: a state with C9's exchanged can arise. */
+    static const struct worked_goes c9 = {"C9, exchanged in a state", message, EOS_MSG, 2, {{8, 2}, {8, 3}}, 0, {{0, 0}}};
+    uint8_t out[20];
+    size_t length = 0;
+    struct eos_state s = {0};
+    EXPECT_OF(c9.name, starts(&c9, out, sizeof out, &s));
+    struct eos_read_segment first = s.reads[0];
+    s.reads[0] = s.reads[1];
+    s.reads[1] = first;
+    EXPECT_OF(c9.name, answers(eos_take_piece(&s, pulled, sizeof pulled, out, sizeof out), EOS_DONE, 2));
+    EXPECT_OF(c9.name, eos_message(&s, out, sizeof out, &length) == EOS_DONE && length == sizeof message);
+    EXPECT_OF(c9.name, memcmp(out, message, sizeof message) == 0);
+}
+
 /* Lengths of up to three segments of the write chunks, one behind the other, and what landed in each of two chunks. */
 static const struct worked_writes {
     const char *name;
@@ -362,6 +577,8 @@ int main(void)
     connecting();
     reassembling();
     counting();
+    entries();
+    ordering();
     returning();
     if (failures == 0)
         printf("worked examples: as they must be\n");

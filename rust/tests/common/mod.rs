@@ -17,7 +17,11 @@ pub fn call(kind: Kind, segments: &[(u32, u32)], inline: &[u8]) -> Vec<u8> {
         offset += u64::from(length);
         ReadSegment { position, target }
     };
-    let reads = segments.iter().map(read).collect();
+    call_with(kind, segments.iter().map(read).collect(), inline)
+}
+
+/// A call with these read segments and bytes inline.
+pub fn call_with(kind: Kind, reads: Vec<ReadSegment>, inline: &[u8]) -> Vec<u8> {
     let header = Header { xid: 0x1234_5678, credit: 9, kind, reads, writes: vec![], reply: None };
     [written(&header), inline.to_vec()].concat()
 }
