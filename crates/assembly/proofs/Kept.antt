@@ -2,7 +2,7 @@
 -- Assumes nothing.
 use mathlib.Core.Path.{_≡_, refl, ap, _∙_}
 use mathlib.Core.Bool.{Bool, true, false, cond, _&&_}
-use mathlib.Core.List.{List}
+use mathlib.Core.List.{List, []}
 use Prim.Native.Nat.{ℕ, _+_, _≤_, _<_}
 use native.Mathlib.Omega.{arith}
 use borrow.Author.Tests.{le-leb, eq-eqb, ne-eqb, leb-true}
@@ -25,7 +25,7 @@ use Rattle.layout.proofs.Scatter.{length-scatter}
 use Rattle.assembly_state.specs.State.{State}
 use Rattle.assembly_start.specs.Start.{baseOf, startNumber, startState, startWords}
 use Rattle.assembly.proofs.Arises.{arises}
-use Rattle.assembly.specs.Assembly.{readsOf, pulledOf, canArise, fitsState, pieceNumber, pieceBuffer, messageNumber, pieceWords}
+use Rattle.assembly.specs.Assembly.{readsOf, pulledOf, canArise, fitsState, pieceNumber, pieceBuffer, messageNumber, messagePart, pieceWords}
 use Rattle.assembly_state.specs.Words.{stateKindAt, partsIn, stateIn, withTaken}
 use Rattle.assembly_state.proofs.Words.{other-kind, length-taken, state-taken}
 
@@ -45,6 +45,11 @@ piece-refused s piece out n = simp (ne-eqb _ _ n)
 pub piece-words-refused : (w : List ℕ) (room size : ℕ) → (pieceNumber (stateIn w) room size ≡ 0 → ⊥) → pieceWords w room size ≡ w
 unfolding pieceWords
 piece-words-refused w room size n = simp (ne-eqb _ _ n)
+
+-- "it is empty where the numbered call refuses"
+pub message-refused : (s : State) (out : List ℕ) → (messageNumber s (length out) ≡ 0 → ⊥) → messagePart s out ≡ []
+unfolding messagePart
+message-refused s out n = simp (ne-eqb _ _ n)
 
 -- "of the state only the count of bytes taken changes"; "a refused piece hands back the state it got": the state behind a piece.
 abbrev pub withCount : State → ℕ → State
@@ -103,6 +108,15 @@ module _ (frame : List ℕ) (room : ℕ) (c : Content) (inline : List ℕ) (read
   -- Its list is the sorted one.
   pub started-list : (w : List ℕ) → readsOf (stateIn (startWords (readFrame frame) room w)) ≡ sorted (c .reads)
   started-list w = ap readsOf (started-held frame room c inline read ok w) ∙ take-append-seam (sorted (c .reads)) _
+
+-- "another buffer length than at the start" (17)
+other-length : (a : Bool) → (a && false) ≡ false
+other-length true = refl
+other-length false = refl
+
+pub other-buffer : (s : State) (room size : ℕ) → (s .buffer ≡ room → ⊥) → (pieceNumber s room size ≡ 17) × (messageNumber s room ≡ 17)
+unfolding pieceNumber messageNumber
+other-buffer s room size n = rw (ne-eqb _ _ n, other-length) (refl, refl)
 
 -- "A state whose list is not sorted gets 17."
 not-sorted : (a b c : Bool) → ((a && (false && b)) && c) ≡ false

@@ -1,4 +1,4 @@
--- A start does not depend on the order of the read list on the wire, but by the order of the segments of one position.
+-- A start does not depend on the order of the read list on the wire, except by the order of the segments of one position.
 -- Assumes nothing.
 use mathlib.Core.Path.{_≡_, sym, ap, _∙_}
 use mathlib.Core.Bool.{cond}

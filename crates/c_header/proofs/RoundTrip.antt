@@ -43,11 +43,11 @@ segment-fits : (w : List ℕ) → AllWords w → SegmentFits (segmentIn w)
 unfolding segmentIn
 segment-fits w f = record { handle-fits = f 0; length-fits = f 1; offset-fits = omega (arith, f 2, f 3) }
 
-read-segment-fits : (w : List ℕ) → AllWords w → ReadSegmentFits (readSegmentIn w)
+pub read-segment-fits : (w : List ℕ) → AllWords w → ReadSegmentFits (readSegmentIn w)
 unfolding readSegmentIn
 read-segment-fits w f = record { position = f 0; target = segment-fits (drop 2 w) (behind w 2 f) }
 
-each-fits : {A : Type 0} (P : A → Type 0) (width : ℕ) (item : List ℕ → A) → ((w : List ℕ) → AllWords w → P (item w)) → (n : ℕ) (w : List ℕ) → AllWords w → All P (each width item n w)
+pub each-fits : {A : Type 0} (P : A → Type 0) (width : ℕ) (item : List ℕ → A) → ((w : List ℕ) → AllWords w → P (item w)) → (n : ℕ) (w : List ℕ) → AllWords w → All P (each width item n w)
 unfolding each All
 each-fits P width item h zero w f = tt
 each-fits P width item h (suc n) w f = (h w f, each-fits P width item h n (drop width w) (behind w width f))

@@ -8,7 +8,7 @@ use mathlib.Core.Option.{some}
 use Prim.Native.Nat.{ℕ, _+_, _-_, _/_, _≤_}
 use lib.ListN.{length, getD, take, drop, replicate}
 use Rattle.wire.specs.Wire.{wordAt, joined}
-use Rattle.wire.specs.Fits.{AllBytes, AllWords, All, Word32, ReadSegmentFits}
+use Rattle.wire.specs.Fits.{AllBytes, AllWords, All, Word32}
 use Rattle.answers.specs.Answers.{unlessRefused}
 use Rattle.wire.specs.declared.Segment.{Segment}
 use Rattle.wire.specs.declared.ReadSegment.{ReadSegment}
@@ -293,7 +293,7 @@ pub order-3-not-sorted : (s : State) (room size : ℕ) → isSorted (readsOf s) 
 order-3-not-sorted = kept.unsorted
 
 -- And one that can arise passes 7 and 9 as the reader has them: its bytes read as that list.
-pub order-3-state-reads : (s : State) → canArise s ≡ true → All ReadSegmentFits (readsOf s) → readList 16 (readListBytes (readsOf s)) ≡ done (readsOf s) []
+pub order-3-state-reads : (w : List ℕ) → AllWords w → canArise (stateIn w) ≡ true → readList 16 (readListBytes (readsOf (stateIn w))) ≡ done (readsOf (stateIn w)) []
 order-3-state-reads = in-order.state-reads
 
 -- "sends its chunks in any order of position": lists that are one list when they are sorted give one start.

@@ -261,20 +261,20 @@ other-asking s room = other-check (fitsState s room) 17 _ (λ e. omega arith) (o
 pub never-eight : NeverGiven 8
 unfolding writeAnswer writeSetupAnswer errorReplyAnswer returnedAnswer
 never-eight = record {
-  reading = λ frame. other-answer (readFrame frame) (other-frame frame) .0;
-  reading-words = λ frame. other-answer (readFrame frame) (other-frame frame) .1;
-  writing = other-writing;
-  writing-words = other-words;
-  starting = λ frame room. other-start (readFrame frame) room (other-frame frame);
-  taking = other-piece;
-  asking = other-asking;
-  reading-setup = other-setup-read;
-  writing-setup = other-setup;
-  writing-setup-words = other-setup-words;
-  agreeing = other-agreement;
-  agreeing-words = other-agreement-words;
-  granting = other-grant;
-  replying = other-reply-number;
-  returning = other-returned;
-  returning-words = other-returned-words;
+  in-reading = λ frame. other-answer (readFrame frame) (other-frame frame) .0;
+  in-reading-words = λ frame. other-answer (readFrame frame) (other-frame frame) .1;
+  in-writing = other-writing;
+  in-writing-words = other-words;
+  in-starting = λ frame room. other-start (readFrame frame) room (other-frame frame);
+  in-taking = other-piece;
+  in-asking = other-asking;
+  in-reading-setup = other-setup-read;
+  in-writing-setup = other-setup;
+  in-writing-setup-words = other-setup-words;
+  in-agreeing = other-agreement;
+  in-agreeing-words = other-agreement-words;
+  in-granting = other-grant;
+  in-replying = other-reply-number;
+  in-returning = other-returned;
+  in-returning-words = other-returned-words;
 }

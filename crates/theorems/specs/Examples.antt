@@ -70,8 +70,8 @@ pub data Example : Type 0 where
   start-words : List ℕ → ℕ → List (ℕ × ℕ) → Example
   -- a piece of so many bytes, for a state that lies in these words and a buffer of so many bytes, gives this number
   piece-gives : List ℕ → ℕ → ℕ → ℕ → Example
-  -- asking for the message of such a state gives this number
-  message-gives : List ℕ → ℕ → ℕ → Example
+  -- a piece of no bytes, and asking for the message, for such a state give these numbers
+  state-gives : List ℕ → ℕ → ℕ → ℕ → Example
   -- pieces of so many bytes, one after the other, for a state that lies in these words and a buffer of so many bytes, are answered so
   pieces-take : List ℕ → ℕ → List ℕ → List PieceAnswer → Example
   -- a header that was sent and the reply's: so many bytes landed in each write chunk and in the reply chunk
@@ -111,7 +111,7 @@ Holds (replies-are kinds) = map replyKindOf (from 0 22) ≡ kinds
 Holds (reply-gives frame number limit room refusal) = errorReplyAnswer frame number limit room ≡ record { number = refusal; length = 0 }
 Holds (start-words frame room values) = All (λ x. getD (startAnswer (readFrame frame) room .state) (x .0) 0 ≡ x .1) values
 Holds (piece-gives w room size number) = pieceAnswer (stateIn w) room size .number ≡ number
-Holds (message-gives w room number) = messageNumber (stateIn w) room ≡ number
+Holds (state-gives w room number asked) = (pieceAnswer (stateIn w) room 0 .number ≡ number) × (messageNumber (stateIn w) room ≡ asked)
 Holds (pieces-take w room sizes answers) = pieceAnswers w room sizes ≡ answers
 Holds (lands sent reply writes n) = returnedAnswer sent reply ≡ record { writes = writes; reply = n; number = 0 }
 Holds (lands-not sent reply number) = returnedAnswer sent reply ≡ record { writes = 0 ∷ 0 ∷ 0 ∷ 0 ∷ []; reply = 0; number = number }
@@ -266,12 +266,19 @@ offsets = headerOf (record {
   reply = some (record { handle = 1; length = 2; offset = 3 * 4294967296 + 4 } ∷ []);
 })
 
+-- A frame with 16 read entries and these words behind them.
+abbrev pub sixteenThen : List ℕ → List ℕ
+sixteenThen behind = words (0x2a ∷ 1 ∷ 0x20 ∷ 0 ∷ []) ++ take 384 (words (entryWords (replicate 16 (4, 0)))) ++ words behind
+
 -- Of what the two lists above leave open: orders in which checks are made, ends of limits, places of bytes and words.
 abbrev pub edges : List Example
 edges =
     frame-reads (words (0x2a ∷ 1 ∷ 0x20 ∷ 5 ∷ [])) 3 []
     ∷ frame-reads (call 0 ((8, 4) ∷ (6, 4) ∷ []) []) 9 []
     ∷ frame-reads (call 0 (replicate 16 (4, 0)) []) 0 []
+    ∷ frame-reads (words (0x2a ∷ 1 ∷ 0x20 ∷ 0 ∷ 1 ∷ 6 ∷ [])) 5 []
+    ∷ frame-reads (sixteenThen (1 ∷ [])) 7 []
+    ∷ frame-reads (sixteenThen (2 ∷ [])) 6 []
     ∷ frame-reads (words (0x2a ∷ 1 ∷ 0x20 ∷ 0 ∷ 0 ∷ 1 ∷ [])) 5 []
     ∷ frame-reads (words (0x2a ∷ 1 ∷ 0x20 ∷ 0 ∷ 0 ∷ 1 ∷ 1 ∷ [])) 5 []
     ∷ frame-reads (words (0x2a ∷ 1 ∷ 0x20 ∷ 0 ∷ 0 ∷ 1 ∷ 17 ∷ [])) 7 []
@@ -511,7 +518,7 @@ falling16 = map (λ i. (64 - 4 * i, i, 0)) (from 0 16)
 abbrev pub rising16 : List (ℕ × ℕ × ℕ)
 rising16 = map (λ i. (4 + 4 * i, 15 - i, 0)) (from 0 16)
 
--- What order 3 says: reading and writing in wire order; 9 and 7 by entries; lists that a start leaves; messages whose pieces come in sorted order; numbers of a start; states, with what else 17 is given for; goes; 8 as an argument of the error reply.
+-- What order 3 says: reading and writing in wire order; 9 and 7 by entries; lists that a start leaves; messages whose pieces come in sorted order; numbers of a start; states, with what else 17 is given for, in the table's order; goes; 8 as an argument of the error reply.
 abbrev pub orderCases : List Example
 orderCases =
     frame-reads (call 0 ((8, 4) ∷ (4, 4) ∷ []) four) 0 four
@@ -538,22 +545,24 @@ orderCases =
     ∷ starts (call 1 ((8, 5) ∷ (4, 4) ∷ []) []) 24 12
     ∷ starts (call 1 ((8, 5) ∷ (0, 10) ∷ []) []) 24 13
     ∷ starts (call 0 ((20, 4) ∷ (8, 5) ∷ []) twelve) 23 16
-    ∷ piece-gives (positioned 8 16) 24 0 0
-    ∷ piece-gives (positioned 8 8) 24 0 0
-    ∷ piece-gives (positioned 16 8) 24 0 17
-    ∷ message-gives (positioned 16 8) 24 17
-    ∷ piece-gives (positioned 8 18) 24 0 17
-    ∷ message-gives (positioned 8 18) 24 17
-    ∷ piece-gives (positioned 6 16) 24 0 17
-    ∷ message-gives (positioned 6 16) 24 17
-    ∷ piece-gives (set (started (call 0 ((8, 5) ∷ []) twelve) 20) 6 6) 20 0 0
-    ∷ message-gives (set (started (call 0 ((8, 5) ∷ []) twelve) 20) 6 6) 20 19
-    ∷ piece-gives (set (started (call 1 (replicate 16 (0, 0)) []) 0) 102 17) 0 0 17
-    ∷ piece-gives (set (set (positioned 8 16) 96 14) 98 28) 28 0 17
-    ∷ piece-gives (set (set (positioned 8 16) 96 1048576) 98 2000000) 2000000 0 17
-    ∷ piece-gives (set (positioned 8 16) 98 23) 23 0 17
-    ∷ piece-gives (set (positioned 8 16) 100 10) 24 0 17
-    ∷ message-gives (set (positioned 8 16) 100 10) 24 17
+    ∷ state-gives (positioned 8 16) 24 0 19
+    ∷ state-gives (positioned 8 8) 24 0 19
+    ∷ state-gives (positioned 16 8) 24 17 17
+    ∷ state-gives (positioned 8 18) 24 17 17
+    ∷ state-gives (positioned 6 16) 24 17 17
+    ∷ state-gives (set (started (call 0 ((8, 5) ∷ []) twelve) 20) 6 6) 20 0 19
+    ∷ state-gives (set (started (call 1 (replicate 16 (0, 0)) []) 0) 102 17) 0 17 17
+    ∷ state-gives (set (positioned 0 12) 3 0) 24 17 17
+    ∷ state-gives (set (replicate 104 0) 103 1) 0 17 17
+    ∷ state-gives (set (set (positioned 8 16) 96 14) 98 28) 28 17 17
+    ∷ state-gives (positioned 8 12) 24 17 17
+    ∷ state-gives (positioned 8 24) 24 17 17
+    ∷ state-gives (set (set (positioned 8 16) 96 1048576) 98 2000000) 2000000 17 17
+    ∷ state-gives (set (positioned 8 16) 98 23) 23 17 17
+    ∷ state-gives (set (started (call 1 ((0, 12) ∷ (8, 5) ∷ []) []) 20) 96 8) 20 17 17
+    ∷ state-gives (set (positioned 8 16) 100 10) 24 17 17
+    ∷ state-gives (positioned 8 16) 23 17 17
+    ∷ state-gives (positioned 8 16) 25 17 17
     ∷ nomsgTakes ((8, 5) ∷ (0, 12) ∷ []) 20 (17 ∷ []) (3 ∷ [])
     ∷ msgTakes ((8, 2) ∷ (4, 4) ∷ (8, 3) ∷ []) 24 (9 ∷ []) (3 ∷ [])
     ∷ replied c2 8 32 (words (0x2a ∷ 1 ∷ 0x20 ∷ 4 ∷ 2 ∷ []))

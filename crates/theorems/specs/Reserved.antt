@@ -18,19 +18,19 @@ use Rattle.returned.specs.Returned.{returnedAnswer, returnedWordsNumber}
 
 -- No call with a number gives n: those of the library, and of the exports where they have a definition of their own.
 pub record NeverGiven (n : ℕ) : Type 0 where
-  pub reading : (frame : List ℕ) → readAnswer (readFrame frame) .number ≡ n → ⊥
-  pub reading-words : (frame : List ℕ) → readNumber (readFrame frame) ≡ n → ⊥
-  pub writing : (h : Header) (room : ℕ) → writeAnswer h room .number ≡ n → ⊥
-  pub writing-words : (h : Option Header) (room : ℕ) → writeWordsAnswer h room .number ≡ n → ⊥
-  pub starting : (frame : List ℕ) (room : ℕ) → startAnswer (readFrame frame) room .number ≡ n → ⊥
-  pub taking : (s : State) (room size : ℕ) → pieceAnswer s room size .number ≡ n → ⊥
-  pub asking : (s : State) (room : ℕ) → messageNumber s room ≡ n → ⊥
-  pub reading-setup : (bytes : List ℕ) → readSetup bytes .number ≡ n → ⊥
-  pub writing-setup : (x : Setup) (room : ℕ) → writeSetupAnswer x room .number ≡ n → ⊥
-  pub writing-setup-words : (w : List ℕ) (room : ℕ) → writeSetupWordsAnswer w room .number ≡ n → ⊥
-  pub agreeing : (client server : Setup) → agreement client server .number ≡ n → ⊥
-  pub agreeing-words : (client server : List ℕ) → agreeWordsAnswer client server .number ≡ n → ⊥
-  pub granting : (asked limit : ℕ) → grantAnswer asked limit .number ≡ n → ⊥
-  pub replying : (frame : List ℕ) (number limit room : ℕ) → errorReplyAnswer frame number limit room .number ≡ n → ⊥
-  pub returning : (sent reply : Header) → returnedAnswer sent reply .number ≡ n → ⊥
-  pub returning-words : (sent reply : Option Header) → returnedWordsNumber sent reply ≡ n → ⊥
+  pub in-reading : (frame : List ℕ) → readAnswer (readFrame frame) .number ≡ n → ⊥
+  pub in-reading-words : (frame : List ℕ) → readNumber (readFrame frame) ≡ n → ⊥
+  pub in-writing : (h : Header) (room : ℕ) → writeAnswer h room .number ≡ n → ⊥
+  pub in-writing-words : (h : Option Header) (room : ℕ) → writeWordsAnswer h room .number ≡ n → ⊥
+  pub in-starting : (frame : List ℕ) (room : ℕ) → startAnswer (readFrame frame) room .number ≡ n → ⊥
+  pub in-taking : (s : State) (room size : ℕ) → pieceAnswer s room size .number ≡ n → ⊥
+  pub in-asking : (s : State) (room : ℕ) → messageNumber s room ≡ n → ⊥
+  pub in-reading-setup : (bytes : List ℕ) → readSetup bytes .number ≡ n → ⊥
+  pub in-writing-setup : (x : Setup) (room : ℕ) → writeSetupAnswer x room .number ≡ n → ⊥
+  pub in-writing-setup-words : (w : List ℕ) (room : ℕ) → writeSetupWordsAnswer w room .number ≡ n → ⊥
+  pub in-agreeing : (client server : Setup) → agreement client server .number ≡ n → ⊥
+  pub in-agreeing-words : (client server : List ℕ) → agreeWordsAnswer client server .number ≡ n → ⊥
+  pub in-granting : (asked limit : ℕ) → grantAnswer asked limit .number ≡ n → ⊥
+  pub in-replying : (frame : List ℕ) (number limit room : ℕ) → errorReplyAnswer frame number limit room .number ≡ n → ⊥
+  pub in-returning : (sent reply : Header) → returnedAnswer sent reply .number ≡ n → ⊥
+  pub in-returning-words : (sent reply : Option Header) → returnedWordsNumber sent reply ≡ n → ⊥
