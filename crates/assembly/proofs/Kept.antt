@@ -1,7 +1,7 @@
 -- What a crate above may rely on: lengths that stay, refusals that change nothing, and states that can arise.
 -- Assumes nothing.
 use mathlib.Core.Path.{_≡_, refl, ap, _∙_}
-use mathlib.Core.Bool.{Bool, true, false, cond, _&&_}
+use mathlib.Core.Bool.{Bool, true, false, cond, _&&_, and-false}
 use mathlib.Core.List.{List, []}
 use Prim.Native.Nat.{ℕ, _+_, _≤_, _<_}
 use native.Mathlib.Omega.{arith}
@@ -110,13 +110,9 @@ module _ (frame : List ℕ) (room : ℕ) (c : Content) (inline : List ℕ) (read
   started-list w = ap readsOf (started-held frame room c inline read ok w) ∙ take-append-seam (sorted (c .reads)) _
 
 -- "another buffer length than at the start" (17)
-other-length : (a : Bool) → (a && false) ≡ false
-other-length true = refl
-other-length false = refl
-
 pub other-buffer : (s : State) (room size : ℕ) → (s .buffer ≡ room → ⊥) → (pieceNumber s room size ≡ 17) × (messageNumber s room ≡ 17)
 unfolding pieceNumber messageNumber
-other-buffer s room size n = rw (ne-eqb _ _ n, other-length) (refl, refl)
+other-buffer s room size n = rw (ne-eqb _ _ n, and-false) (refl, refl)
 
 -- "A state whose list is not sorted gets 17."
 not-sorted : (a b c : Bool) → ((a && (false && b)) && c) ≡ false

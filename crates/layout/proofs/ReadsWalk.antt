@@ -1,7 +1,7 @@
 -- The walk over a read list that checks its positions too: of the segments to come nothing is known yet.
 -- Assumes nothing.
 use mathlib.Core.Path.{_≡_, refl, sym, ap, _∙_}
-use mathlib.Core.Bool.{Bool, true, false, cond, _&&_}
+use mathlib.Core.Bool.{Bool, true, false, cond, _&&_, and-false}
 use mathlib.Core.List.{List, [], _∷_}
 use Prim.Native.Nat.{ℕ, _+_, _-_, _%_, _≤_, _<_}
 use native.Mathlib.Omega.{arith}
@@ -48,11 +48,7 @@ faulty base reads h = by (isSorted reads) refl
 
 -- The same of a list whose chunks do not stand.
 fallen : (base : ℕ) (reads : List ReadSegment) → (isSorted reads ≡ true → stands base 0 0 (otherChunks reads) ≡ false) → Faulty ≡ readsCheck base reads
-fallen base reads h = faulty base reads (λ e. rw (h e) (by (allAligned reads)))
-  where
-    by : (b : Bool) → (b && false) ≡ false
-    by true = refl
-    by false = refl
+fallen base reads h = faulty base reads (λ e. rw (h e) (and-false (allAligned reads)))
 
 module _ (base : ℕ) (reads : List ReadSegment) (i earlier : ℕ) (w : Run) (s : Sums) (k : Walking base reads i earlier w s) where
   module _ (x : ReadSegment) (rest : drop i reads ≡ x ∷ drop (i + 1) reads) where
