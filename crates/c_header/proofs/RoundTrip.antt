@@ -7,12 +7,11 @@ use mathlib.Core.Option.{some}
 use Prim.Native.Nat.{ℕ, zero, suc, _+_, _-_, _≤_}
 use native.Mathlib.Omega.{arith}
 use lib.ListN.{length, take, drop, getD, length-drop}
-use lib.Seq.{getD-drop, length-take-le}
+use lib.Seq.{length-take-le}
 use lib.Dec.{leb, eqb}
-use Rattle.wire.specs.Words.{segmentIn, readSegmentIn}
-use Rattle.chunk_lists.specs.Parsed.{Parsed, refused, done, each}
-use Rattle.chunk_lists.specs.Words.{readsIn, segmentsIn}
+use Rattle.chunk_lists.specs.Parsed.{Parsed, refused, done}
 use Rattle.chunk_lists.proofs.Words.{length-reads, length-segments}
+use Rattle.chunk_lists.proofs.WordsFit.{words-behind, reads-fit, segments-fit}
 use Rattle.header.specs.declared.Kind.{Kind}
 use Rattle.header.specs.declared.Kind.the-variants.{Msg, Nomsg, Error}
 use Rattle.header.specs.declared.ErrorKind.the-variants.{Version, Chunk}
@@ -27,30 +26,13 @@ use Rattle.header.specs.Bytes.{headerBytes}
 use Rattle.c_header.specs.Part.{partOf}
 use Rattle.c_header.proofs.PayloadPlace.{part-there}
 use Rattle.writer.specs.Write.{writeNumber, writeAnswer, writeWordsAnswer, writeWordsBuffer}
-use Rattle.wire.specs.Fits.{Word32, All, AllBytes, AllWords, SegmentFits, ReadSegmentFits}
+use Rattle.wire.specs.Fits.{Word32, All, AllBytes, AllWords}
 use Rattle.header.specs.Fits.{KindFits, Representable, zeroed}
 use Rattle.writer.proofs.RoundTrip.{zeroed-written, zeroed-representable, frame-is, written-read, headerOf-contentOf, read-written, read-representable}
 
 -- The places that a header's struct has.
 full : (h : Header) → Representable h → Full h
 full h r = record { reads = r .reads-length; writes = r .writes-length; counts = r .counts-length; reply = r .reply-length }
-
--- What stands behind the first k words.
-behind : (w : List ℕ) (k : ℕ) → AllWords w → AllWords (drop k w)
-behind w k f i = rw (getD-drop k w i 0) (f (k + i))
-
-segment-fits : (w : List ℕ) → AllWords w → SegmentFits (segmentIn w)
-unfolding segmentIn
-segment-fits w f = record { handle-fits = f 0; length-fits = f 1; offset-fits = omega (arith, f 2, f 3) }
-
-pub read-segment-fits : (w : List ℕ) → AllWords w → ReadSegmentFits (readSegmentIn w)
-unfolding readSegmentIn
-read-segment-fits w f = record { position = f 0; target = segment-fits (drop 2 w) (behind w 2 f) }
-
-pub each-fits : {A : Type 0} (P : A → Type 0) (width : ℕ) (item : List ℕ → A) → ((w : List ℕ) → AllWords w → P (item w)) → (n : ℕ) (w : List ℕ) → AllWords w → All P (each width item n w)
-unfolding each All
-each-fits P width item h zero w f = tt
-each-fits P width item h (suc n) w f = (h w f, each-fits P width item h n (drop width w) (behind w width f))
 
 some-words : (n : ℕ) (l : List ℕ) → AllWords l → All Word32 (take n l)
 unfolding All
@@ -73,21 +55,20 @@ kind-fits number low high l h kind = by (eqb number 0) (eqb number 1) (eqb numbe
     by false false false false e = absurd (let z : _≡_ {A = ℕ} 0 1 = cc in omega arith)
 
 held : (w : List ℕ) → AllWords w → length w ≡ 238 → (kind : Kind) (present : Bool) → KindFits kind → Representable (headerAs w kind present)
-unfolding readsIn segmentsIn
 held w f long kind present k = record {
   kind = k;
   xid = f 235;
   credit = f 236;
   reads-length = length-reads w;
-  reads-segments = each-fits ReadSegmentFits 6 readSegmentIn read-segment-fits 16 w f;
+  reads-segments = reads-fit w f;
   reads-count = f 228;
   writes-length = length-segments 96 w;
-  writes-segments = each-fits SegmentFits 4 segmentIn segment-fits 16 (drop 96 w) (behind w 96 f);
+  writes-segments = segments-fit 96 w f;
   counts-length = length-take-le 4 (drop 224 w) (rw length-drop (omega arith));
-  counts = some-words 4 (drop 224 w) (behind w 224 f);
+  counts = some-words 4 (drop 224 w) (words-behind w 224 f);
   chunks = f 229;
   reply-length = length-segments 160 w;
-  reply-segments = each-fits SegmentFits 4 segmentIn segment-fits 16 (drop 160 w) (behind w 160 f);
+  reply-segments = segments-fit 160 w f;
   reply-count = f 231;
 }
 

@@ -3,3 +3,4 @@ pub mod ListSteps
 pub mod ListBytes
 pub mod Positions
 pub mod Words
+pub mod WordsFit

@@ -9,11 +9,11 @@ use lib.ListN.{length, length-append, length-take}
 use borrow.Author.Tests.{le-leb}
 use Rattle.wire.specs.Wire.{joined}
 use Rattle.wire.specs.Fits.{AllBytes, AllWords, All, ReadSegmentFits}
-use Rattle.wire.specs.Words.{readSegmentIn}
 use Rattle.wire.specs.declared.ReadSegment.{ReadSegment}
 use Rattle.chunk_lists.specs.Parsed.{Parsed, done}
 use Rattle.chunk_lists.specs.Lists.{readList}
 use Rattle.chunk_lists.specs.Words.{readsIn}
+use Rattle.chunk_lists.proofs.WordsFit.{reads-fit}
 use Rattle.header.specs.Bytes.{readListBytes}
 use Rattle.header.proofs.Contents.{all-take}
 use Rattle.reader.proofs.ReadBack.{read-list-back}
@@ -30,7 +30,6 @@ use Rattle.assembly_start.specs.Start.{baseOf, startNumber, startAnswer, startW
 use Rattle.assembly.specs.Assembly.{readsOf, canArise}
 use Rattle.assembly.proofs.Arises.{arises}
 use Rattle.assembly.proofs.Kept.{started-list}
-use Rattle.c_header.proofs.RoundTrip.{read-segment-fits, each-fits}
 use Rattle.theorems.specs.Message.{bytesByChunk}
 use Rattle.theorems.specs.Calls.{Call, piece, startThen}
 use Rattle.theorems.specs.Tally.{pulledPlacesOf, tally}
@@ -43,11 +42,10 @@ use Rattle.theorems.proofs.Exports.{exports-same}
 
 -- The list of a state that can arise passes 7 and 9 as the reader has them: its bytes read as that list.
 pub state-reads : (w : List ℕ) → AllWords w → canArise (stateIn w) ≡ true → readList 16 (readListBytes (readsOf (stateIn w))) ≡ done (readsOf (stateIn w)) []
-unfolding readsIn
 state-reads w f e =
     let a = arises (stateIn w) e in
     let few = a .few in
-    let fit : All ReadSegmentFits (readsOf (stateIn w)) = all-take ReadSegmentFits (stateIn w .reads .count) (readsIn w) (each-fits ReadSegmentFits 6 readSegmentIn read-segment-fits 16 w f) in
+    let fit : All ReadSegmentFits (readsOf (stateIn w)) = all-take ReadSegmentFits (stateIn w .reads .count) (readsIn w) (reads-fit w f) in
     ap (readList 16) (sym (append-nil (readListBytes (readsOf (stateIn w))))) ∙ read-list-back (readsOf (stateIn w)) [] 16 fit (rw length-take (omega arith)) (a .aligned)
 
 -- The state behind an accepted start holds the sorted list, whatever the words held before.
