@@ -3,7 +3,7 @@
 mod common;
 
 use common::c6;
-use eoswynnor::{error_reply, grant, Refusal, MAX_REPLY};
+use eoswynnor::{error_reply, grant, Header, Kind, Refusal, MAX_REPLY};
 
 #[test]
 fn replies_and_refusals() {
@@ -15,6 +15,23 @@ fn replies_and_refusals() {
     assert_eq!(error_reply(&c6(), Refusal(19), 32, &mut room), Ok(&[][..]));
     assert_eq!(error_reply(&c6(), Refusal(2), 32, &mut room[..27]), Err(Refusal(16)));
     assert_eq!(error_reply(&c6(), Refusal(26), 32, &mut room), Err(Refusal(20)));
+}
+
+/// A version reply has the frame's version; one that is not 1 is refused by a reader of version 1. A chunk reply has 1.
+#[test]
+fn the_version_is_echoed() {
+    for version in [0, 1, 2, 7, u32::MAX] {
+        let (mut frame, mut room) = (c6(), [0; MAX_REPLY]);
+        frame[4..8].copy_from_slice(&version.to_be_bytes());
+        let reply = error_reply(&frame, Refusal(2), 32, &mut room).unwrap();
+        assert_eq!((&reply[..8], &reply[20..]), (&frame[..8], &[0, 0, 0, 1, 0, 0, 0, 1][..]));
+        let kind = Header::read(reply).map(|header| header.kind);
+        let named = Kind::ErrorVersion { low: 1, high: 1 };
+        assert_eq!(kind, if version == 1 { Ok(named) } else { Err(Refusal(2)) }, "{version}");
+        let chunk = error_reply(&frame, Refusal(5), 32, &mut room).unwrap();
+        assert_eq!((&chunk[..4], &chunk[4..8]), (&frame[..4], &[0, 0, 0, 1][..]));
+        assert_eq!(Header::read(chunk).map(|header| header.kind), Ok(Kind::ErrorChunk));
+    }
 }
 
 #[test]

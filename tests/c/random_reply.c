@@ -13,6 +13,32 @@ static size_t reply_length(struct lent frame, uint32_t number)
     return number == EOS_OTHER_VERSION ? EOS_MAX_REPLY : CHUNK_NUMBERS & BIT(number) ? 20 : 0;
 }
 
+/* Replies that were read with 0 and with 2, version replies and chunk replies: each has to come. */
+static unsigned version_read, version_refused, chunk_to_other;
+
+/* A version reply echoes the frame's version, a chunk reply has 1; what is not 1 is refused by the reader. */
+static void check_reply(struct lent frame, struct lent out, size_t length, uint32_t limit)
+{
+    struct eos_header h, before;
+    uint32_t asked = word_at(frame, 8), version = word_at(frame, 4), credit = asked < limit ? asked : limit;
+    uint32_t read;
+    memset(&before, 0x5a, sizeof before);
+    h = before;
+    CHECK(word_at(out, 0) == word_at(frame, 0) && word_at(out, 4) == (length == 20 ? 1 : version));
+    CHECK(word_at(out, 8) == (credit > 0 ? credit : 1) && word_at(out, 12) == 4);
+    CHECK(word_at(out, 16) == (length == 20 ? 2 : 1));
+    CHECK(length == 20 || (word_at(out, 20) == 1 && word_at(out, 24) == 1));
+    read = eos_read_header(out.bytes, length, &h);
+    CHECK(read == (word_at(out, 4) == 1 ? EOS_DONE : EOS_OTHER_VERSION));
+    if (read == EOS_DONE)
+        CHECK(h.kind == (length == 20 ? EOS_ERROR_CHUNK : EOS_ERROR_VERSION) && h.credit == word_at(out, 8));
+    else
+        CHECK(memcmp(&h, &before, sizeof h) == 0);
+    version_read += length == 28 && read == EOS_DONE;
+    version_refused += read != EOS_DONE;
+    chunk_to_other += length == 20 && version != 1;
+}
+
 static void reply_one(struct lent frame, uint32_t number)
 {
     uint32_t limit = edge();
@@ -29,12 +55,8 @@ static void reply_one(struct lent frame, uint32_t number)
         CHECK((done == EOS_BUFFER_SHORT) == (reply_length(frame, number) > out.length));
     if (done == EOS_DONE)
         CHECK(length == reply_length(frame, number));
-    if (length > 0) {
-        struct eos_header h;
-        CHECK(eos_read_header(out.bytes, length, &h) == EOS_DONE && memcmp(out.bytes, frame.bytes, 4) == 0);
-        CHECK(h.kind == (length == 20 ? EOS_ERROR_CHUNK : EOS_ERROR_VERSION));
-        CHECK(1 <= h.credit && h.credit <= limit);
-    }
+    if (length > 0)
+        check_reply(frame, out, length, limit);
     give_back(was);
     give_back(out);
 }
@@ -69,5 +91,7 @@ static void one_round(void)
 
 int main(int argc, char **argv)
 {
-    return make_rounds(argc, argv, "reply", one_round, ROOM_NUMBERS);
+    int done = make_rounds(argc, argv, "reply", one_round, ROOM_NUMBERS);
+    CHECK(version_read > 0 && version_refused > 0 && chunk_to_other > 0);
+    return done;
 }

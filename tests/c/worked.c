@@ -52,7 +52,8 @@ static void reading(void)
 
 static void replying(void)
 {
-    static const uint8_t version_reply[28] = {[3] = 0x2a, [7] = 1, [11] = 0x20, [15] = 4, [19] = 1, [23] = 1, [27] = 1};
+    static const uint8_t version_reply[28] = {[3] = 0x2a, [7] = 2, [11] = 0x20, [15] = 4, [19] = 1, [23] = 1, [27] = 1};
+    static const uint8_t chunk_reply[20] = {[3] = 0x2a, [7] = 1, [11] = 7, [15] = 4, [19] = 2};
     uint8_t frame[28], out[30];
     size_t length = 99;
     struct eos_header h;
@@ -67,10 +68,15 @@ static void replying(void)
     EXPECT(length == 99 && out[0] == 0xee);
     EXPECT(eos_error_reply(frame, sizeof frame, EOS_OTHER_VERSION, 32, out, sizeof out, &length) == EOS_DONE);
     EXPECT(length == 28 && memcmp(out, version_reply, 28) == 0 && out[28] == 0xee && out[29] == 0xee);
+    /* The version is that of the frame: a reader of version 1 refuses it, and stores nothing. */
+    memset(&h, 0xee, sizeof h);
+    EXPECT(eos_read_header(out, 28, &h) == EOS_OTHER_VERSION && h.kind == 0xeeeeeeee && h.xid == 0xeeeeeeee);
+    EXPECT(eos_error_reply(out, 28, EOS_OTHER_VERSION, 32, frame, sizeof frame, &length) == EOS_DONE && length == 0);
+    EXPECT(eos_error_reply(c2, sizeof c2, EOS_OTHER_VERSION, 32, out, sizeof out, &length) == EOS_DONE && out[7] == 1);
     EXPECT(eos_read_header(out, 28, &h) == EOS_DONE && h.kind == EOS_ERROR_VERSION && h.low == 1 && h.high == 1);
 
     EXPECT(eos_error_reply(frame, sizeof frame, EOS_BAD_MARKER, 7, out, sizeof out, &length) == EOS_DONE);
-    EXPECT(length == 20 && out[11] == 7);
+    EXPECT(length == 20 && memcmp(out, chunk_reply, 20) == 0);
     EXPECT(eos_read_header(out, 20, &h) == EOS_DONE && h.kind == EOS_ERROR_CHUNK);
     /* 8 is never given, and still has its reply. */
     EXPECT(eos_error_reply(frame, sizeof frame, EOS_POSITION_FALLS, 7, out, sizeof out, &length) == EOS_DONE);

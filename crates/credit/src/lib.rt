@@ -14,13 +14,11 @@ pub fn granted_credit(asked: u32, limit: u32) -> u32
     ensures { λ r. ⌜ r ≡ granted asked limit ⌝ }
 {
     // A side without credits could never ask again.
-    if asked == 0 {
-        return 1;
-    }
-    if limit < asked {
+    let wanted = if asked == 0 { 1 } else { asked };
+    if limit < wanted {
         return limit;
     }
-    asked
+    wanted
 }
 
 // The credits to grant to one who asks.

@@ -1,2 +1,3 @@
 pub mod ReplyTable
+pub mod ReplyWritten
 pub mod ReplyRead

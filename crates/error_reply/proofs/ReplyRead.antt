@@ -1,41 +1,45 @@
--- An error reply that was written reads back as the ERROR header that it is meant to be.
+-- An error reply in bytes, and what reading gives for one that was written.
 -- Assumes nothing.
-use mathlib.Core.Path.{_≡_, refl, subst}
-use mathlib.Core.List.{List, [], append-nil}
+use mathlib.Core.Path.{_≡_, refl, sym, ap, _∙_, subst}
+use mathlib.Core.Bool.{Bool, true, false, cond}
+use mathlib.Core.List.{List, [], _∷_, _++_, append-nil}
 use mathlib.Core.Option.{some, Option·none-ne-some, Option·some-injective}
 use Prim.Native.Nat.{ℕ, _≤_, min, max}
 use native.Mathlib.Nat.{min-le-right, max-le}
 use native.Mathlib.Omega.{arith}
-use borrow.Author.Tests.{le-leb}
-use lib.ListN.{length, take}
+use borrow.Author.Tests.{le-leb, leb-true, ne-eqb}
+use lib.Dec.{leb, eqb}
+use lib.ListN.{length, take, drop}
 use lib.Seq.{take-append-seam}
 use Rattle.wire.specs.Wire.{wordAt, joined, wordBytes, words}
 use Rattle.chunk_lists.specs.Lists.{allAligned}
-use Rattle.chunk_lists.specs.Parsed.{done}
-use Rattle.header.specs.Content.{headerOf}
-use Rattle.reader.specs.Frame.{readFrame, readAnswer, payloadOf, errorContent}
+use Rattle.chunk_lists.specs.Parsed.{done, refused}
+use Rattle.header.specs.Content.{headerOf, nothing}
+use Rattle.header.specs.Words.{headerWords}
+use Rattle.reader.specs.Frame.{readFrame, readAnswer, readNumber, readWords, payloadOf, errorContent}
 use Rattle.header.specs.declared.ErrorKind.{ErrorKind}
 use Rattle.header.specs.Bytes.{headerBytes, fixedBytes, errorBytes}
 use Rattle.header.specs.Limits.{total}
 use Rattle.credit.specs.Credit.{granted}
-use Rattle.error_reply.specs.Reply.{replyKindFor, replyWords, errorReply, errorReplyNumber, errorReplyAnswer, errorReplyBuffer}
+use Rattle.error_reply.specs.Reply.{replyKindOf, replyKindFor, replyWords, errorReply, errorReplyNumber, errorReplyAnswer, errorReplyBuffer}
 use Rattle.error_reply.specs.declared.ReplyKind.{ReplyKind}
 use Rattle.error_reply.specs.declared.ReplyKind.the-variants as reply
 use Rattle.wire.specs.Fits.{AllBytes, Word32, All}
 use Rattle.header.specs.Fits.{ErrorFits}
 use Rattle.error_reply.specs.Meant.{meant}
 use Rattle.header.proofs.Allowed.{Allowed}
-use Rattle.wire.proofs.WordBytes.{word-fits}
+use Rattle.wire.proofs.WordBytes.{join-bytes, word-fits, word-front}
 use Rattle.reader.proofs.ReadBack.{header-back}
 
--- The words of a reply are the bytes of the header that it is meant to be.
-reply-bytes : (kind : ReplyKind) (e : ErrorKind) (xid credit : ℕ) → meant kind ≡ some e → words (replyWords kind xid credit) ≡ headerBytes (errorContent e xid credit)
+-- The words of a reply are the bytes of the header that it is meant to be, if a version reply's second word is 1.
+reply-bytes : (kind : ReplyKind) (e : ErrorKind) (xid version credit : ℕ) → meant kind ≡ some e → (kind ≡ reply.Version → version ≡ 1) →
+    words (replyWords kind xid version credit) ≡ headerBytes (errorContent e xid credit)
 unfolding words joined wordBytes headerBytes fixedBytes errorBytes
-reply-bytes reply.None e xid credit m = absurd (Option·none-ne-some e m)
-reply-bytes reply.Version e xid credit m =
-    subst (λ (x : ErrorKind). words (replyWords reply.Version xid credit) ≡ headerBytes (errorContent x xid credit)) (Option·some-injective _ _ m) refl
-reply-bytes reply.Chunk e xid credit m =
-    subst (λ (x : ErrorKind). words (replyWords reply.Chunk xid credit) ≡ headerBytes (errorContent x xid credit)) (Option·some-injective _ _ m) refl
+reply-bytes reply.None e xid version credit m one = absurd (Option·none-ne-some e m)
+reply-bytes reply.Version e xid version credit m one =
+    subst (λ (x : ErrorKind). words (replyWords reply.Version xid version credit) ≡ headerBytes (errorContent x xid credit)) (Option·some-injective _ _ m) (rw (one refl) refl)
+reply-bytes reply.Chunk e xid version credit m one =
+    subst (λ (x : ErrorKind). words (replyWords reply.Chunk xid version credit) ≡ headerBytes (errorContent x xid credit)) (Option·some-injective _ _ m) refl
 
 -- The numbers in it fit their fields.
 meant-fits : (kind : ReplyKind) (e : ErrorKind) → meant kind ≡ some e → ErrorFits e
@@ -67,21 +71,87 @@ error-allowed e xid credit f x c = record {
   bare = (refl, refl, refl);
 }
 
--- The reply that was written is read as the error that it is meant to name, with the frame's xid and the grant.
-pub reply-read : (frame out : List ℕ) (number limit : ℕ) (e : ErrorKind) → AllBytes frame → Word32 limit → errorReplyNumber frame number limit (length out) ≡ 0 → meant (replyKindFor frame number) ≡ some e →
+-- What was written is the reply.
+reply-written : (frame out : List ℕ) (number limit : ℕ) → errorReplyNumber frame number limit (length out) ≡ 0 →
+    take (errorReplyAnswer frame number limit (length out) .length) (errorReplyBuffer frame number limit out) ≡ errorReply frame number limit
+unfolding errorReplyAnswer errorReplyBuffer
+reply-written frame out number limit zero = simp (zero, take-append-seam)
+
+-- A chunk reply that was written is read as the error that it is meant to name, with the frame's xid and the grant; so is a version reply to a frame of version 1.
+pub reply-read : (frame out : List ℕ) (number limit : ℕ) (e : ErrorKind) → AllBytes frame → Word32 limit → errorReplyNumber frame number limit (length out) ≡ 0 → meant (replyKindFor frame number) ≡ some e → (replyKindFor frame number ≡ reply.Version → wordAt frame 4 ≡ 1) →
     readFrame (take (errorReplyAnswer frame number limit (length out) .length) (errorReplyBuffer frame number limit out)) ≡ done (errorContent e (wordAt frame 0) (granted (wordAt frame 8) limit)) []
-unfolding errorReplyAnswer errorReplyBuffer errorReply
-reply-read frame out number limit e b fits zero m =
-    let bytes = reply-bytes (replyKindFor frame number) e (wordAt frame 0) (granted (wordAt frame 8) limit) m in
+unfolding errorReply
+reply-read frame out number limit e b fits zero m one =
+    let bytes = reply-bytes (replyKindFor frame number) e (wordAt frame 0) (wordAt frame 4) (granted (wordAt frame 8) limit) m one in
     let allowed = error-allowed e (wordAt frame 0) (granted (wordAt frame 8) limit) (meant-fits (replyKindFor frame number) e m) (word-fits frame 0 b) (granted-fits (wordAt frame 8) limit fits) in
     let back = header-back (errorContent e (wordAt frame 0) (granted (wordAt frame 8) limit)) [] allowed refl in
-    simp (zero, take-append-seam, bytes) (simp append-nil at back)
+    rw (reply-written frame out number limit zero, bytes) (simp append-nil at back)
 
 -- So it reads back as that ERROR header, with nothing behind.
-pub reply-read-answer : (frame out : List ℕ) (number limit : ℕ) (e : ErrorKind) → AllBytes frame → Word32 limit → errorReplyNumber frame number limit (length out) ≡ 0 → meant (replyKindFor frame number) ≡ some e →
+pub reply-read-answer : (frame out : List ℕ) (number limit : ℕ) (e : ErrorKind) → AllBytes frame → Word32 limit → errorReplyNumber frame number limit (length out) ≡ 0 → meant (replyKindFor frame number) ≡ some e → (replyKindFor frame number ≡ reply.Version → wordAt frame 4 ≡ 1) →
     (readAnswer (readFrame (take (errorReplyAnswer frame number limit (length out) .length) (errorReplyBuffer frame number limit out))) ≡ record { header = headerOf (errorContent e (wordAt frame 0) (granted (wordAt frame 8) limit)); number = 0 })
     × (payloadOf (readFrame (take (errorReplyAnswer frame number limit (length out) .length) (errorReplyBuffer frame number limit out))) ≡ [])
-reply-read-answer frame out number limit e b fits zero m = rw (reply-read frame out number limit e b fits zero m) (refl, refl)
+reply-read-answer frame out number limit e b fits zero m one = rw (reply-read frame out number limit e b fits zero m one) (refl, refl)
+
+-- The same through the exports.
+pub export-reply-read : (frame out before : List ℕ) (number limit : ℕ) (e : ErrorKind) → AllBytes frame → Word32 limit → errorReplyNumber frame number limit (length out) ≡ 0 → meant (replyKindFor frame number) ≡ some e → (replyKindFor frame number ≡ reply.Version → wordAt frame 4 ≡ 1) →
+    (readNumber (readFrame (take (errorReplyAnswer frame number limit (length out) .length) (errorReplyBuffer frame number limit out))) ≡ 0)
+    × (readWords (readFrame (take (errorReplyAnswer frame number limit (length out) .length) (errorReplyBuffer frame number limit out))) before ≡ headerWords (headerOf (errorContent e (wordAt frame 0) (granted (wordAt frame 8) limit))))
+    × (payloadOf (readFrame (take (errorReplyAnswer frame number limit (length out) .length) (errorReplyBuffer frame number limit out))) ≡ [])
+export-reply-read frame out before number limit e b fits zero m one = rw (reply-read frame out number limit e b fits zero m one) (refl, refl, refl)
+
+-- "Reading such a reply back gives 2 unless its second word is 1."
+other-version : (xid version credit : ℕ) → Word32 version → (version ≡ 1 → ⊥) → readFrame (words (replyWords reply.Version xid version credit)) ≡ refused 2
+unfolding readFrame words joined wordBytes wordAt
+other-version xid version credit fits other = rw (join-bytes version fits, ne-eqb version 1 other) refl
+
+pub other-read : (frame out : List ℕ) (number limit : ℕ) → AllBytes frame → errorReplyNumber frame number limit (length out) ≡ 0 → replyKindFor frame number ≡ reply.Version → (wordAt frame 4 ≡ 1 → ⊥) →
+    readFrame (take (errorReplyAnswer frame number limit (length out) .length) (errorReplyBuffer frame number limit out)) ≡ refused 2
+unfolding errorReply
+other-read frame out number limit b zero version other =
+    rw (reply-written frame out number limit zero, version) (other-version (wordAt frame 0) (wordAt frame 4) (granted (wordAt frame 8) limit) (word-fits frame 4 b) other)
+
+-- So reading gives 2, the all-zero header and no payload; through the exports 2, and the caller's header as it was.
+pub other-read-answer : (frame out : List ℕ) (number limit : ℕ) → AllBytes frame → errorReplyNumber frame number limit (length out) ≡ 0 → replyKindFor frame number ≡ reply.Version → (wordAt frame 4 ≡ 1 → ⊥) →
+    (readAnswer (readFrame (take (errorReplyAnswer frame number limit (length out) .length) (errorReplyBuffer frame number limit out))) ≡ record { header = headerOf nothing; number = 2 })
+    × (payloadOf (readFrame (take (errorReplyAnswer frame number limit (length out) .length) (errorReplyBuffer frame number limit out))) ≡ [])
+other-read-answer frame out number limit b zero version other = rw (other-read frame out number limit b zero version other) (refl, refl)
+
+pub export-other-read : (frame out before : List ℕ) (number limit : ℕ) → AllBytes frame → errorReplyNumber frame number limit (length out) ≡ 0 → replyKindFor frame number ≡ reply.Version → (wordAt frame 4 ≡ 1 → ⊥) →
+    (readNumber (readFrame (take (errorReplyAnswer frame number limit (length out) .length) (errorReplyBuffer frame number limit out))) ≡ 2)
+    × (readWords (readFrame (take (errorReplyAnswer frame number limit (length out) .length) (errorReplyBuffer frame number limit out))) before ≡ before)
+    × (payloadOf (readFrame (take (errorReplyAnswer frame number limit (length out) .length) (errorReplyBuffer frame number limit out))) ≡ [])
+export-other-read frame out before number limit b zero version other = rw (other-read frame out number limit b zero version other) (refl, refl, refl)
+
+-- A frame that gets a reply has its fixed words.
+replied-long : (frame : List ℕ) (number : ℕ) (e : ErrorKind) → meant (replyKindFor frame number) ≡ some e → 16 ≤ length frame
+unfolding replyKindFor
+replied-long frame number e m = go (leb 16 (length frame)) refl m
+  where
+    go : (b : Bool) → leb 16 (length frame) ≡ b → meant (cond b (cond (eqb (wordAt frame 12) 4) reply.None (replyKindOf number)) reply.None) ≡ some e → 16 ≤ length frame
+    go true long q = leb-true 16 (length frame) long
+    go false long q = absurd (Option·none-ne-some e q)
+
+-- The first two words of a frame are what stands there.
+two-words : (frame : List ℕ) → AllBytes frame → 16 ≤ length frame → frame ≡ wordBytes (wordAt frame 0) ++ (wordBytes (wordAt frame 4) ++ drop 8 frame)
+two-words frame b long =
+    sym (ap (λ (t : List ℕ). wordBytes (wordAt frame 0) ++ t) (word-front frame 4 8 b refl (omega arith)) ∙ word-front frame 0 4 b refl (omega arith))
+
+-- "In a version reply the second word becomes the frame's version word; low and high stay 1.": xid and version byte by byte as they came.
+pub version-reply : (frame : List ℕ) (number limit : ℕ) → AllBytes frame → replyKindFor frame number ≡ reply.Version →
+    errorReply frame number limit ≡ take 8 frame ++ wordBytes (granted (wordAt frame 8) limit) ++ (0 ∷ 0 ∷ 0 ∷ 4 ∷ 0 ∷ 0 ∷ 0 ∷ 1 ∷ 0 ∷ 0 ∷ 0 ∷ 1 ∷ 0 ∷ 0 ∷ 0 ∷ 1 ∷ [])
+unfolding errorReply words joined wordBytes
+version-reply frame number limit b version =
+    let first = ap (take 8) (two-words frame b (replied-long frame number _ (ap meant version))) in
+    rw (version, first) refl
+
+-- "A chunk reply keeps its second word 1, whatever the frame's."
+pub chunk-reply : (frame : List ℕ) (number limit : ℕ) → AllBytes frame → replyKindFor frame number ≡ reply.Chunk →
+    errorReply frame number limit ≡ take 4 frame ++ (0 ∷ 0 ∷ 0 ∷ 1 ∷ []) ++ wordBytes (granted (wordAt frame 8) limit) ++ (0 ∷ 0 ∷ 0 ∷ 4 ∷ 0 ∷ 0 ∷ 0 ∷ 2 ∷ [])
+unfolding errorReply words joined wordBytes
+chunk-reply frame number limit b chunk =
+    let first = ap (take 4) (two-words frame b (replied-long frame number _ (ap meant chunk))) in
+    rw (chunk, first) refl
 
 -- "no reply (number 0, length 0, buffer unchanged)"
 pub no-reply : (frame out : List ℕ) (number limit : ℕ) → 1 ≤ limit → number ≤ 21 → replyKindFor frame number ≡ reply.None →
@@ -92,12 +162,12 @@ no-reply frame out number limit some-limit known none-meant =
     simp (le-leb 1 limit some-limit, le-leb number 21 known, none-meant, le-leb 0 (length out) (omega arith)) (refl, refl)
 
 -- An error reply is itself never answered: two sides cannot go on answering each other.
-unanswered : (kind : ReplyKind) (xid credit number : ℕ) → replyKindFor (words (replyWords kind xid credit)) number ≡ reply.None
+unanswered : (kind : ReplyKind) (xid version credit number : ℕ) → replyKindFor (words (replyWords kind xid version credit)) number ≡ reply.None
 unfolding replyKindFor words joined wordBytes wordAt
-unanswered reply.None xid credit number = refl
-unanswered reply.Version xid credit number = refl
-unanswered reply.Chunk xid credit number = refl
+unanswered reply.None xid version credit number = refl
+unanswered reply.Version xid version credit number = refl
+unanswered reply.Chunk xid version credit number = refl
 
 pub reply-unanswered : (frame : List ℕ) (number limit later : ℕ) → replyKindFor (errorReply frame number limit) later ≡ reply.None
 unfolding errorReply
-reply-unanswered frame number limit later = unanswered (replyKindFor frame number) (wordAt frame 0) (granted (wordAt frame 8) limit) later
+reply-unanswered frame number limit later = unanswered (replyKindFor frame number) (wordAt frame 0) (wordAt frame 4) (granted (wordAt frame 8) limit) later

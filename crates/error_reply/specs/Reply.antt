@@ -28,15 +28,16 @@ replyKindFor frame number =
     cond (leb 16 (length frame)) (cond (eqb (wordAt frame 12) 4) None (replyKindOf number))
     None
 
--- "Version reply: xid, 1, grant, 4, 1, 1, 1 (28 bytes). Chunk reply: xid, 1, grant, 4, 2 (20 bytes)."
-abbrev pub replyWords : ReplyKind → ℕ → ℕ → List ℕ
-replyWords None xid credit = []
-replyWords Version xid credit = xid ∷ 1 ∷ credit ∷ 4 ∷ 1 ∷ 1 ∷ 1 ∷ []
-replyWords Chunk xid credit = xid ∷ 1 ∷ credit ∷ 4 ∷ 2 ∷ []
+-- "Version reply: xid, 1, grant, 4, 1, 1, 1 (28 bytes). Chunk reply: xid, 1, grant, 4, 2 (20 bytes).", as mended by order 4: "In a version reply the second word becomes the frame's version word; low and high stay 1." "A chunk reply keeps its second word 1, whatever the frame's."
+abbrev pub replyWords : ReplyKind → ℕ → ℕ → ℕ → List ℕ
+replyWords None xid version credit = []
+replyWords Version xid version credit = xid ∷ version ∷ credit ∷ 4 ∷ 1 ∷ 1 ∷ 1 ∷ []
+replyWords Chunk xid version credit = xid ∷ 1 ∷ credit ∷ 4 ∷ 2 ∷ []
 
--- The bytes of the reply to a frame that got an answer number; none where there is no reply.
+-- The bytes of the reply to a frame that got an answer number, from the frame's own words; none where there is no reply.
 unfoldable pub errorReply : List ℕ → ℕ → ℕ → List ℕ
-errorReply frame number limit = words (replyWords (replyKindFor frame number) (wordAt frame 0) (granted (wordAt frame 8) limit))
+errorReply frame number limit =
+    words (replyWords (replyKindFor frame number) (wordAt frame 0) (wordAt frame 4) (granted (wordAt frame 8) limit))
 
 -- "Checks: 20": "credit limit 0, .. an answer number above 21"; "then 16".
 unfoldable pub errorReplyNumber : List ℕ → ℕ → ℕ → ℕ → ℕ

@@ -4,9 +4,9 @@ ghost use mathlib.Core.Path.{_≡_};
 ghost use mathlib.Core.List.{_∷_, []};
 ghost use Prim.Native.Nat.{_≤_};
 ghost use lib.ListN.{length};
-ghost use Rattle.wire.specs.Wire.{stored, words};
-ghost use Rattle.answers.specs.Answers.{roomNumber, writerAnswer, writerBuffer};
+ghost use Rattle.wire.specs.Wire.{wordAt, stored, wordBytes, words};
 ghost use Rattle.error_reply.specs.Reply.{replyKindOf, replyKindFor, replyWords, errorReplyAnswer, errorReplyBuffer};
+ghost use Rattle.error_reply.specs.Internal.Length.{replyLength};
 
 // What is answered to a frame.
 pub enum ReplyKind {
@@ -44,12 +44,19 @@ const REPLY_KINDS: [ReplyKind; 22] = [
     ReplyKind::None,
 ];
 
-// The reply that the table has for an answer number.
+// The reply that the table has for an answer number. The table is walked, so that each place read is one that the compiler
+// knows: for any other it would build the table anew at each call.
 fn kind_of(number: u32) -> ReplyKind
     requires { ⌜ number ≤ 21 ⌝ }
     ensures { λ r. ⌜ r ≡ replyKindOf number ⌝ }
 {
-    let kind = REPLY_KINDS[number as usize];
+    let kinds = REPLY_KINDS;
+    let mut kind = ReplyKind::None;
+    for i in 0..22 {
+        if i == number as usize {
+            kind = kinds[i];
+        }
+    }
     kind
 }
 
@@ -65,56 +72,42 @@ fn kind_for(frame: &[u8], number: u32) -> ReplyKind
     kind_of(number)
 }
 
-// Writes the words that both replies have.
-fn encode_common(out: &mut [u8], xid: u32, credit: u32, code: u32)
-    requires { ⌜ 20 ≤ length (now out) ⌝ }
-    ensures { λ _. ⌜ now (out .exit) ≡ stored (now (out .entry)) 0 (words (xid ∷ 1 ∷ credit ∷ 4 ∷ code ∷ [])) ⌝ }
+// How many bytes a reply has.
+fn length_of(kind: ReplyKind) -> usize
+    ensures { λ r. ⌜ r ≡ replyLength kind ⌝ }
 {
-    wire::put_word(out, header::XID_AT, xid);
-    wire::put_word(out, header::VERSION_AT, header::VERSION);
-    wire::put_word(out, header::CREDIT_AT, credit);
-    wire::put_word(out, header::PROCEDURE_AT, header::PROCEDURE_ERROR);
-    wire::put_word(out, header::CODE_AT, code);
+    match kind {
+        ReplyKind::None => 0,
+        ReplyKind::Version => header::VERSION_ERROR_BYTES,
+        ReplyKind::Chunk => header::CHUNK_ERROR_BYTES,
+    }
 }
 
-// Writes a version reply.
-fn encode_version(out: &mut [u8], xid: u32, credit: u32)
-    requires { ⌜ 28 ≤ length (now out) ⌝ }
-    ensures { λ _. ⌜ now (out .exit) ≡ stored (now (out .entry)) 0 (words (replyWords ReplyKind.Version xid credit)) ⌝ }
+// Writes what a version reply has around the grant: the frame's own xid and version; the procedure, the code, low and high.
+fn encode_version(out: &mut [u8], frame: &[u8])
+    requires { ⌜ (16 ≤ length (now frame)) × (28 ≤ length (now out)) ⌝ }
+    ensures { λ _. ⌜ now (out .exit) ≡ stored (stored (now (out .entry)) 0 (words (wordAt (now (frame .entry)) 0 ∷ wordAt (now (frame .entry)) 4 ∷ []))) 12 (words (4 ∷ 1 ∷ 1 ∷ 1 ∷ [])) ⌝ }
 {
-    encode_common(out, xid, credit, header::CODE_VERSION);
+    // Both are read before they are written: eight bytes in one move.
+    let xid = wire::word_at(frame, header::XID_AT);
+    let version = wire::word_at(frame, header::VERSION_AT);
+    wire::put_word(out, header::XID_AT, xid);
+    wire::put_word(out, header::VERSION_AT, version);
+    wire::put_word(out, header::PROCEDURE_AT, header::PROCEDURE_ERROR);
+    wire::put_word(out, header::CODE_AT, header::CODE_VERSION);
     wire::put_word(out, header::LOW_AT, header::VERSION);
     wire::put_word(out, header::HIGH_AT, header::VERSION);
 }
 
-// Writes a reply where there is one and the buffer has room.
-fn encode_reply(out: &mut [u8], kind: ReplyKind, xid: u32, credit: u32) -> WriteAnswer
-    ensures answer { λ r. ⌜ r ≡ writerAnswer (roomNumber (words (replyWords kind xid credit)) (length (now (out .entry)))) (words (replyWords kind xid credit)) ⌝ }
-    ensures buffer { λ _. ⌜ now (out .exit) ≡ writerBuffer (roomNumber (words (replyWords kind xid credit)) (length (now (out .entry)))) (words (replyWords kind xid credit)) (now (out .entry)) ⌝ }
+// Writes what a chunk reply has around the grant: the frame's xid, version 1; the procedure, the code.
+fn encode_chunk(out: &mut [u8], frame: &[u8])
+    requires { ⌜ (16 ≤ length (now frame)) × (20 ≤ length (now out)) ⌝ }
+    ensures { λ _. ⌜ now (out .exit) ≡ stored (stored (now (out .entry)) 0 (words (wordAt (now (frame .entry)) 0 ∷ 1 ∷ []))) 12 (words (4 ∷ 2 ∷ [])) ⌝ }
 {
-    match kind {
-        ReplyKind::None => answers::nothing_written(0),
-        ReplyKind::Version => {
-            if out.len() < header::VERSION_ERROR_BYTES {
-                return answers::nothing_written(answers::BUFFER_SHORT);
-            }
-            encode_version(out, xid, credit);
-            WriteAnswer {
-                number: 0,
-                length: header::VERSION_ERROR_BYTES,
-            }
-        }
-        ReplyKind::Chunk => {
-            if out.len() < header::CHUNK_ERROR_BYTES {
-                return answers::nothing_written(answers::BUFFER_SHORT);
-            }
-            encode_common(out, xid, credit, header::CODE_CHUNK);
-            WriteAnswer {
-                number: 0,
-                length: header::CHUNK_ERROR_BYTES,
-            }
-        }
-    }
+    wire::put_word(out, header::XID_AT, wire::word_at(frame, header::XID_AT));
+    wire::put_word(out, header::VERSION_AT, header::VERSION);
+    wire::put_word(out, header::PROCEDURE_AT, header::PROCEDURE_ERROR);
+    wire::put_word(out, header::CODE_AT, header::CODE_CHUNK);
 }
 
 // Writes the reply to a frame that got an answer number, if there is one, and keeps the bytes behind it.
@@ -131,8 +124,25 @@ pub fn error_reply(frame: &[u8], number: u32, limit: u32, out: &mut [u8]) -> Wri
     if frame.len() < header::FIXED_BYTES {
         return answers::nothing_written(0);
     }
-    let kind = kind_for(frame, number);
-    let xid = wire::word_at(frame, header::XID_AT);
+    let n = length_of(kind_for(frame, number));
+    if n == 0 {
+        return answers::nothing_written(0);
+    }
+    if out.len() < n {
+        return answers::nothing_written(answers::BUFFER_SHORT);
+    }
+    // The grant stands between what each reply has around it: where two arms both end in words that are written, the compiler
+    // joins their ends, byte by byte.
+    if n == header::VERSION_ERROR_BYTES {
+        encode_version(out, frame);
+    }
     let asked = wire::word_at(frame, header::CREDIT_AT);
-    encode_reply(out, kind, xid, credit::granted_credit(asked, limit))
+    wire::put_word(out, header::CREDIT_AT, credit::granted_credit(asked, limit));
+    if n == header::CHUNK_ERROR_BYTES {
+        encode_chunk(out, frame);
+    }
+    WriteAnswer {
+        number: 0,
+        length: n,
+    }
 }

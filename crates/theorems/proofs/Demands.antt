@@ -7,7 +7,7 @@ use mathlib.Core.List.{List, [], _∷_, _++_, map}
 use mathlib.Core.Option.{some}
 use Prim.Native.Nat.{ℕ, _+_, _-_, _/_, _≤_}
 use lib.ListN.{length, getD, take, drop, replicate}
-use Rattle.wire.specs.Wire.{wordAt, joined}
+use Rattle.wire.specs.Wire.{wordAt, joined, wordBytes}
 use Rattle.wire.specs.Fits.{AllBytes, AllWords, All, Word32}
 use Rattle.answers.specs.Answers.{unlessRefused}
 use Rattle.wire.specs.declared.Segment.{Segment}
@@ -15,7 +15,7 @@ use Rattle.wire.specs.declared.ReadSegment.{ReadSegment}
 use Rattle.chunk_lists.specs.Parsed.{done}
 use Rattle.chunk_lists.specs.Lists.{readList}
 use Rattle.header.specs.Bytes.{readListBytes}
-use Rattle.header.specs.Content.{Content, padded, headerOf, contentOf}
+use Rattle.header.specs.Content.{Content, padded, headerOf, contentOf, nothing}
 use Rattle.header.specs.Limits.{keepsLimits}
 use Rattle.header.specs.Fits.{Representable, zeroed}
 use Rattle.header.specs.Words.{headerIn, headerWords}
@@ -63,7 +63,7 @@ use Rattle.theorems.specs.Cuts.{CutOf}
 use Rattle.theorems.specs.Demands.{takenBytes, Finished, Unchanged}
 use Rattle.theorems.specs.Reserved.{NeverGiven}
 use Rattle.theorems.specs.Exports.{exportThen}
-use Rattle.theorems.specs.Examples.{Holds, examples, numbers, edges, returnedCases, goesCases, orderCases}
+use Rattle.theorems.specs.Examples.{Holds, examples, numbers, edges, returnedCases, goesCases, orderCases, echoCases}
 use Rattle.theorems.proofs.Message as message
 use Rattle.theorems.proofs.Demand3 as demand-three
 use Rattle.theorems.proofs.Exports as exports
@@ -152,11 +152,17 @@ pub exports-demand-3 : (frame out before : List ℕ) (size : ℕ) (c : Content) 
     (cut : List ReadSegment) → CutOf (c .reads) cut → Unchanged (λ f. exportThen f out before size) frame out c inline cut
 exports-demand-3 = exports.exports-unchanged
 
--- A reply that was written reads back as the ERROR header that it is meant to be, and is itself never answered.
-pub reply-reads-back : (frame out : List ℕ) (number limit : ℕ) (e : ErrorKind) → AllBytes frame → Word32 limit → errorReplyNumber frame number limit (length out) ≡ 0 → meant (replyKindFor frame number) ≡ some e →
+-- A chunk reply that was written reads back as the ERROR header that it is meant to be, and so does a version reply to a frame of version 1 (to any other frame: order 4, below). No reply is itself answered.
+pub reply-reads-back : (frame out : List ℕ) (number limit : ℕ) (e : ErrorKind) → AllBytes frame → Word32 limit → errorReplyNumber frame number limit (length out) ≡ 0 → meant (replyKindFor frame number) ≡ some e → (replyKindFor frame number ≡ reply.Version → wordAt frame 4 ≡ 1) →
     (readAnswer (readFrame (take (errorReplyAnswer frame number limit (length out) .length) (errorReplyBuffer frame number limit out))) ≡ record { header = headerOf (errorContent e (wordAt frame 0) (granted (wordAt frame 8) limit)); number = 0 })
     × (payloadOf (readFrame (take (errorReplyAnswer frame number limit (length out) .length) (errorReplyBuffer frame number limit out))) ≡ [])
 reply-reads-back = reply-read.reply-read-answer
+
+pub exports-reply-reads-back : (frame out before : List ℕ) (number limit : ℕ) (e : ErrorKind) → AllBytes frame → Word32 limit → errorReplyNumber frame number limit (length out) ≡ 0 → meant (replyKindFor frame number) ≡ some e → (replyKindFor frame number ≡ reply.Version → wordAt frame 4 ≡ 1) →
+    (readNumber (readFrame (take (errorReplyAnswer frame number limit (length out) .length) (errorReplyBuffer frame number limit out))) ≡ 0)
+    × (readWords (readFrame (take (errorReplyAnswer frame number limit (length out) .length) (errorReplyBuffer frame number limit out))) before ≡ headerWords (headerOf (errorContent e (wordAt frame 0) (granted (wordAt frame 8) limit))))
+    × (payloadOf (readFrame (take (errorReplyAnswer frame number limit (length out) .length) (errorReplyBuffer frame number limit out))) ≡ [])
+exports-reply-reads-back = reply-read.export-reply-read
 
 pub reply-never-answered : (frame : List ℕ) (number limit later : ℕ) → replyKindFor (errorReply frame number limit) later ≡ reply.None
 reply-never-answered = reply-read.reply-unanswered
@@ -330,3 +336,29 @@ order-3-at-once = in-order.taken-at-once
 -- Order 3, case by case.
 pub order-3-cases : All Holds orderCases
 order-3-cases = worked.in-any-order
+
+-- Order 4: "In a version reply the second word becomes the frame's version word; low and high stay 1.": xid and version are the frame's first eight bytes.
+pub order-4-version-reply : (frame : List ℕ) (number limit : ℕ) → AllBytes frame → replyKindFor frame number ≡ reply.Version →
+    errorReply frame number limit ≡ take 8 frame ++ wordBytes (granted (wordAt frame 8) limit) ++ (0 ∷ 0 ∷ 0 ∷ 4 ∷ 0 ∷ 0 ∷ 0 ∷ 1 ∷ 0 ∷ 0 ∷ 0 ∷ 1 ∷ 0 ∷ 0 ∷ 0 ∷ 1 ∷ [])
+order-4-version-reply = reply-read.version-reply
+
+-- "A chunk reply keeps its second word 1, whatever the frame's."
+pub order-4-chunk-reply : (frame : List ℕ) (number limit : ℕ) → AllBytes frame → replyKindFor frame number ≡ reply.Chunk →
+    errorReply frame number limit ≡ take 4 frame ++ (0 ∷ 0 ∷ 0 ∷ 1 ∷ []) ++ wordBytes (granted (wordAt frame 8) limit) ++ (0 ∷ 0 ∷ 0 ∷ 4 ∷ 0 ∷ 0 ∷ 0 ∷ 2 ∷ [])
+order-4-chunk-reply = reply-read.chunk-reply
+
+-- "Reading such a reply back gives 2 unless its second word is 1." (If it is 1: `reply-reads-back`.)
+pub order-4-other-version : (frame out : List ℕ) (number limit : ℕ) → AllBytes frame → errorReplyNumber frame number limit (length out) ≡ 0 → replyKindFor frame number ≡ reply.Version → (wordAt frame 4 ≡ 1 → ⊥) →
+    (readAnswer (readFrame (take (errorReplyAnswer frame number limit (length out) .length) (errorReplyBuffer frame number limit out))) ≡ record { header = headerOf nothing; number = 2 })
+    × (payloadOf (readFrame (take (errorReplyAnswer frame number limit (length out) .length) (errorReplyBuffer frame number limit out))) ≡ [])
+order-4-other-version = reply-read.other-read-answer
+
+pub exports-order-4-other-version : (frame out before : List ℕ) (number limit : ℕ) → AllBytes frame → errorReplyNumber frame number limit (length out) ≡ 0 → replyKindFor frame number ≡ reply.Version → (wordAt frame 4 ≡ 1 → ⊥) →
+    (readNumber (readFrame (take (errorReplyAnswer frame number limit (length out) .length) (errorReplyBuffer frame number limit out))) ≡ 2)
+    × (readWords (readFrame (take (errorReplyAnswer frame number limit (length out) .length) (errorReplyBuffer frame number limit out))) before ≡ before)
+    × (payloadOf (readFrame (take (errorReplyAnswer frame number limit (length out) .length) (errorReplyBuffer frame number limit out))) ≡ [])
+exports-order-4-other-version = reply-read.export-other-read
+
+-- Order 4, case by case.
+pub order-4-cases : All Holds echoCases
+order-4-cases = worked.echoed

@@ -25,7 +25,7 @@ use Rattle.assembly.specs.Assembly.{canArise, pieceNumber, pieceGoes, pieceBuff
 use Rattle.assembly_state.specs.Words.{stateKind, partsIn, stateWords, withTaken}
 use Rattle.theorems.specs.Calls.{runCalls}
 use Rattle.wire.specs.Fits.{All}
-use Rattle.theorems.specs.Examples.{Holds, entryWords, examples, numbers, edges, returnedCases, pieceAnswers, goesCases, handleWords, listWords, orderCases}
+use Rattle.theorems.specs.Examples.{Holds, entryWords, examples, numbers, edges, returnedCases, pieceAnswers, goesCases, handleWords, listWords, orderCases, echoCases}
 use Rattle.header.specs.Words.{kindIn, headerIn, headerWords}
 use Rattle.c_setup.specs.Words.{agreementWords}
 use Rattle.returned.specs.Returned.{any, pairs, chunkPairs, filledBehindGap, mismatch, chunkLength, returnedNumber, returnedAnswer}
@@ -59,3 +59,8 @@ goes-taken = (refl, (refl, (refl, (refl, (refl, (refl, (refl, (refl, (refl, (ref
 pub in-any-order : All Holds orderCases
 unfolding All words joined wordBytes readFrame byProcedure threeParts readList readEntry segments counted each writeList replyChunk markerOf wordOf wordAt segmentAt readSegmentAt writeAnswer writeBuffer writeNumber withinLimits total entriesNumber neverFalls allAligned inserted sorted headerOf contentOf runs headerBytes fixedBytes readListBytes writeListBytes replyBytes chunkBytes countedBytes entryBytes segmentBytes readSegmentBytes isSetup readSetup granted grantAnswer replyKindOf replyKindFor errorReply errorReplyNumber errorReplyAnswer errorReplyBuffer entryWords segmentIn segmentWords readSegmentIn readSegmentWords readsIn readsWords stateKind partsIn stateWords startWords withTaken pieceWords wire.stored startNumber startBuffer startWrites canArise pieceNumber pieceBuffer messageNumber messagePart runCalls anyAtZero zeroLength joinChunk otherChunks roundedUp roundedTotal stands placeNumber places gaps paddings paddingPlaces basePlaces pulledPlaces from scatter pieceGoes pieceAnswers dealt ofSegment pulledBytes follows begunBehind goes handleWords listWords
 in-any-order = ((refl, refl), ((refl, refl), ((refl, refl), ((refl, refl), ((refl, refl), ((refl, refl), (refl, ((refl, (refl, (refl, (refl, (refl, (refl, (refl, (refl, (refl, (refl, tt)))))))))), ((refl, (refl, (refl, (refl, (refl, (refl, (refl, (refl, (refl, (refl, (refl, (refl, (refl, tt))))))))))))), ((refl, (refl, (refl, (refl, (refl, (refl, (refl, (refl, (refl, (refl, (refl, (refl, (refl, tt))))))))))))), ((refl, (refl, (refl, (refl, (refl, (refl, (refl, (refl, (refl, (refl, (refl, (refl, (refl, (refl, (refl, (refl, (refl, (refl, (refl, tt))))))))))))))))))), ((refl, (refl, (refl, (refl, (refl, (refl, (refl, (refl, (refl, (refl, (refl, (refl, (refl, (refl, (refl, tt))))))))))))))), ((refl, (refl, (refl, (refl, (refl, (refl, (refl, (refl, (refl, (refl, (refl, (refl, (refl, (refl, (refl, (refl, (refl, (refl, (refl, (refl, (refl, (refl, (refl, (refl, (refl, (refl, (refl, (refl, (refl, (refl, (refl, (refl, (refl, (refl, (refl, (refl, (refl, (refl, (refl, (refl, (refl, (refl, (refl, (refl, (refl, (refl, (refl, (refl, tt)))))))))))))))))))))))))))))))))))))))))))))))), ((refl, (refl, (refl, (refl, (refl, (refl, (refl, (refl, (refl, (refl, (refl, (refl, (refl, (refl, (refl, (refl, (refl, (refl, (refl, (refl, (refl, (refl, (refl, (refl, (refl, (refl, (refl, (refl, (refl, (refl, (refl, (refl, (refl, (refl, (refl, (refl, (refl, (refl, (refl, (refl, (refl, (refl, (refl, (refl, (refl, (refl, (refl, (refl, tt)))))))))))))))))))))))))))))))))))))))))))))))), ((refl, refl), ((refl, refl), ((refl, refl), ((refl, refl), (refl, (refl, (refl, (refl, (refl, (refl, ((refl, refl), ((refl, refl), ((refl, refl), ((refl, refl), ((refl, refl), ((refl, refl), ((refl, refl), ((refl, refl), ((refl, refl), ((refl, refl), ((refl, refl), ((refl, refl), ((refl, refl), ((refl, refl), ((refl, refl), ((refl, refl), ((refl, refl), ((refl, refl), (refl, (refl, ((refl, refl), tt)))))))))))))))))))))))))))))))))))))))))))))
+
+-- Order 4, case by case.
+pub echoed : All Holds echoCases
+unfolding All words joined wordBytes wordOf wordAt readFrame byProcedure errorBody headerOf granted replyKindOf replyKindFor errorReply errorReplyNumber errorReplyAnswer errorReplyBuffer
+echoed = ((refl, refl), ((refl, refl), ((refl, refl), ((refl, refl), ((refl, refl), ((refl, refl), ((refl, refl), ((refl, refl), ((refl, refl), ((refl, refl), ((refl, refl), ((refl, refl), ((refl, refl), ((refl, refl), ((refl, refl), ((refl, refl), ((refl, refl), ((refl, refl), ((refl, refl), tt)))))))))))))))))))

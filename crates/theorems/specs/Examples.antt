@@ -8,7 +8,8 @@ use Rattle.wire.specs.Wire.{words, zeroSegment, zeroReadSegment}
 use Rattle.wire.specs.declared.Segment.{Segment}
 use Rattle.wire.specs.declared.ReadSegment.{ReadSegment}
 use Rattle.reader.specs.Frame.{readFrame, readAnswer, payloadOf}
-use Rattle.header.specs.Content.{headerOf}
+use Rattle.reader.specs.declared.ReadAnswer.{ReadAnswer}
+use Rattle.header.specs.Content.{headerOf, nothing}
 use Rattle.header.specs.declared.Header.{Header}
 use Rattle.header.specs.declared.Kind.the-variants.{Msg, Nomsg, Error}
 use Rattle.writer.specs.Write.{writeAnswer, writeBuffer}
@@ -20,11 +21,12 @@ use Rattle.theorems.specs.Calls.{Call, piece, asking, Outcome, gives, st
 use Rattle.setup.specs.Setup.{readSetup, writeSetupAnswer, agreement}
 use Rattle.setup.specs.declared.SetupAnswer.{SetupAnswer}
 use Rattle.credit.specs.Credit.{grantAnswer}
-use Rattle.error_reply.specs.Reply.{errorReplyAnswer, errorReplyBuffer, replyKindOf}
+use Rattle.error_reply.specs.Reply.{replyKindOf, errorReply, errorReplyAnswer, errorReplyBuffer}
 use mathlib.Core.Option.{Option, none, some}
 use Rattle.wire.specs.Fits.{All}
 use Rattle.header.specs.Words.{replyPresentAt, kindAt, headerIn, headerWords}
 use Rattle.header.specs.declared.Kind.{Kind}
+use Rattle.header.specs.declared.ErrorKind.{ErrorKind}
 use Rattle.header.specs.declared.ErrorKind.the-variants as error
 use Rattle.setup.specs.declared.Setup.{Setup}
 use Rattle.setup.specs.declared.Agreement.{Agreement}
@@ -66,6 +68,8 @@ pub data Example : Type 0 where
   replies-are : List ReplyKind → Example
   -- an error reply to a frame, for a number and a limit, into a buffer of so many bytes is refused with this number
   reply-gives : List ℕ → ℕ → ℕ → ℕ → ℕ → Example
+  -- reading the error reply to a frame, for a number and a limit, gives this
+  reply-reads : List ℕ → ℕ → ℕ → ReadAnswer → Example
   -- the words that a start makes over a frame and a buffer of so many bytes have these values at these places
   start-words : List ℕ → ℕ → List (ℕ × ℕ) → Example
   -- a piece of so many bytes, for a state that lies in these words and a buffer of so many bytes, gives this number
@@ -109,6 +113,7 @@ Holds (setup-gives x room number) = writeSetupAnswer x room ≡ record { number 
 Holds (agrees client server both w) = (agreement client server ≡ both) × (agreementWords both ≡ w)
 Holds (replies-are kinds) = map replyKindOf (from 0 22) ≡ kinds
 Holds (reply-gives frame number limit room refusal) = errorReplyAnswer frame number limit room ≡ record { number = refusal; length = 0 }
+Holds (reply-reads frame number limit answer) = (readAnswer (readFrame (errorReply frame number limit)) ≡ answer) × (payloadOf (readFrame (errorReply frame number limit)) ≡ [])
 Holds (start-words frame room values) = All (λ x. getD (startAnswer (readFrame frame) room .state) (x .0) 0 ≡ x .1) values
 Holds (piece-gives w room size number) = pieceAnswer (stateIn w) room size .number ≡ number
 Holds (state-gives w room number asked) = (pieceAnswer (stateIn w) room 0 .number ≡ number) × (messageNumber (stateIn w) room ≡ asked)
@@ -173,14 +178,14 @@ full = headerOf (record {
   reply = some (replicate 16 (record { handle = 1; length = 2; offset = 3 }));
 })
 
--- C1 to C13, in the document's order.
+-- C1 to C13, in the document's order; C3's reply as mended by order 4: "2a, 2, 20, 4, 1, 1, 1".
 abbrev pub examples : List Example
 examples =
     frame-reads [] 1 []
     ∷ frame-reads c2 0 []
     ∷ assembles c2 0 (asking ∷ []) (gives 0 [] ∷ [])
     ∷ frame-reads c3 2 []
-    ∷ replied c3 2 32 (words (0x2a ∷ 1 ∷ 0x20 ∷ 4 ∷ 1 ∷ 1 ∷ 1 ∷ []))
+    ∷ replied c3 2 32 (words (0x2a ∷ 2 ∷ 0x20 ∷ 4 ∷ 1 ∷ 1 ∷ 1 ∷ []))
     ∷ frame-reads (take 27 c2) 5 []
     ∷ frame-reads (words (0x2a ∷ 1 ∷ 0x20 ∷ 0 ∷ 2 ∷ 0 ∷ 0 ∷ [])) 6 []
     ∷ assembles (call 0 ((8, 5) ∷ []) twelve) 24 (asking ∷ piece (0 ∷ five) ∷ piece five ∷ asking ∷ []) (gives 19 [] ∷ gives 18 [] ∷ gives 0 [] ∷ gives 0 c6Message ∷ [])
@@ -566,4 +571,40 @@ orderCases =
     ∷ nomsgTakes ((8, 5) ∷ (0, 12) ∷ []) 20 (17 ∷ []) (3 ∷ [])
     ∷ msgTakes ((8, 2) ∷ (4, 4) ∷ (8, 3) ∷ []) 24 (9 ∷ []) (3 ∷ [])
     ∷ replied c2 8 32 (words (0x2a ∷ 1 ∷ 0x20 ∷ 4 ∷ 2 ∷ []))
+    ∷ []
+
+-- Order 4. C2 with another version.
+abbrev pub ofVersion : ℕ → List ℕ
+ofVersion version = words (0x2a ∷ version ∷ 0x20 ∷ 0 ∷ 0 ∷ 0 ∷ 0 ∷ [])
+
+-- A frame of 16 bytes, its xid 01 to 04, its version 05 to 08.
+abbrev pub fixedAlone : List ℕ
+fixedAlone = 1 ∷ 2 ∷ 3 ∷ 4 ∷ 5 ∷ 6 ∷ 7 ∷ 8 ∷ 0 ∷ 0 ∷ 0 ∷ 9 ∷ 0 ∷ 0 ∷ 0 ∷ 0 ∷ []
+
+-- What is read from a reply to C2's xid and credit that names this error.
+abbrev pub namedError : ErrorKind → ReadAnswer
+namedError e = record { header = headerOf (record { kind = Error e; xid = 0x2a; credit = 0x20; reads = []; writes = []; reply = none }); number = 0 }
+
+-- What order 4 says: versions echoed, byte by byte; 2 with a frame of version 1; chunk replies to frames of another version; frames that get no reply; then what reading a reply gives; and a reply that is answered with none.
+abbrev pub echoCases : List Example
+echoCases =
+    replied c2 2 32 (words (0x2a ∷ 1 ∷ 0x20 ∷ 4 ∷ 1 ∷ 1 ∷ 1 ∷ []))
+    ∷ replied (ofVersion 0) 2 32 (words (0x2a ∷ 0 ∷ 0x20 ∷ 4 ∷ 1 ∷ 1 ∷ 1 ∷ []))
+    ∷ replied (ofVersion 4294967295) 2 32 (words (0x2a ∷ 4294967295 ∷ 0x20 ∷ 4 ∷ 1 ∷ 1 ∷ 1 ∷ []))
+    ∷ replied fixedAlone 2 32 (1 ∷ 2 ∷ 3 ∷ 4 ∷ 5 ∷ 6 ∷ 7 ∷ 8 ∷ 0 ∷ 0 ∷ 0 ∷ 9 ∷ 0 ∷ 0 ∷ 0 ∷ 4 ∷ 0 ∷ 0 ∷ 0 ∷ 1 ∷ 0 ∷ 0 ∷ 0 ∷ 1 ∷ 0 ∷ 0 ∷ 0 ∷ 1 ∷ [])
+    ∷ replied fixedAlone 5 32 (1 ∷ 2 ∷ 3 ∷ 4 ∷ 0 ∷ 0 ∷ 0 ∷ 1 ∷ 0 ∷ 0 ∷ 0 ∷ 9 ∷ 0 ∷ 0 ∷ 0 ∷ 4 ∷ 0 ∷ 0 ∷ 0 ∷ 2 ∷ [])
+    ∷ replied (ofVersion 7) 2 32 (words (0x2a ∷ 7 ∷ 0x20 ∷ 4 ∷ 1 ∷ 1 ∷ 1 ∷ []))
+    ∷ replied (ofVersion 7) 5 32 (words (0x2a ∷ 1 ∷ 0x20 ∷ 4 ∷ 2 ∷ []))
+    ∷ replied (ofVersion 7) 15 32 (words (0x2a ∷ 1 ∷ 0x20 ∷ 4 ∷ 2 ∷ []))
+    ∷ replied (ofVersion 7) 4 32 []
+    ∷ replied (words (0x2a ∷ 2 ∷ 0x20 ∷ 4 ∷ [])) 2 32 []
+    ∷ replied (take 15 c3) 2 32 []
+    ∷ reply-reads c2 2 32 (namedError (error.Version 1 1))
+    ∷ reply-reads c3 2 32 (record { header = headerOf nothing; number = 2 })
+    ∷ reply-reads (ofVersion 0) 2 32 (record { header = headerOf nothing; number = 2 })
+    ∷ reply-reads (ofVersion 16777216) 2 32 (record { header = headerOf nothing; number = 2 })
+    ∷ reply-reads (ofVersion 7) 5 32 (namedError error.Chunk)
+    ∷ reply-reads c2 5 32 (namedError error.Chunk)
+    ∷ frame-reads (words (0x2a ∷ 2 ∷ 0x20 ∷ 4 ∷ 1 ∷ 1 ∷ 1 ∷ [])) 2 []
+    ∷ replied (words (0x2a ∷ 2 ∷ 0x20 ∷ 4 ∷ 1 ∷ 1 ∷ 1 ∷ [])) 2 32 []
     ∷ []

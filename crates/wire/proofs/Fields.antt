@@ -43,6 +43,11 @@ stored-apart l i j [] b h = refl
 stored-apart l i j (x ∷ a) b h =
     stored-apart (set l i x) (suc i) j a b (omega arith) ∙ rw (set-apart l i j x b (omega arith))
 
+-- The run behind was stored first.
+pub behind-first : {A : Type 0} (l m n : List A) (i j : ℕ) (a b : List A) → m ≡ stored l j b → n ≡ stored m i a → i + length a ≡ j → n ≡ stored l i (a ++ b)
+behind-first {A} l m n i j a b p q e =
+    then l (stored l i a) n i j a b refl (q ∙ ap (λ (t : List A). stored t i a) p ∙ sym (stored-apart l i j a b (omega arith))) e
+
 -- What is stored at the front stands before the bytes behind it.
 pub stored-front : (l v : List ℕ) → length v ≤ length l → stored l 0 v ≡ v ++ drop (length v) l
 unfolding stored

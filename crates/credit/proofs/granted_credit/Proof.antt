@@ -1,20 +1,21 @@
 -- `credit::granted_credit` meets its contract.
-use native.Mathlib.Nat.{zero-min}
-use Rattle.credit.proofs.Granting.{at-most, as-asked}
-use mathlib.Core.Path.{sym}
-use Rattle.credit.specs.Credit.{granted}
+use mathlib.Core.Logic.{⊎-elim}
+use mathlib.Core.Path.{sym, _∙_}
+use native.Mathlib.Omega.{arith}
+use Rattle.credit.proofs.Granting.{none-asked, at-most, as-asked}
 use Rattle.credit.proofs.granted_credit.Statement.{statement}
 use Rattle.credit.proofs.granted_credit.Tie as tie
 
 returns : tie.Need-returns
-unfolding granted
-returns c = rw (c .if1 .taken, zero-min)
+returns c =
+    let over = c .if2 .taken in
+    let some = c .before .before .pre in
+    ⊎-elim (λ t. absurd (omega (arith, t .1, over, some))) (λ t. sym (at-most (omega (arith, t .1, over)) some)) (c .before .if1 .came)
 
 returns-2 : tie.Need-returns-2
-returns-2 c = sym (at-most (c .if2 .taken) (c .before .before .pre))
-
-returns-3 : tie.Need-returns-3
-returns-3 c = sym (as-asked (c .before .if1 .left) (c .if2 .left))
+returns-2 c =
+    let within = c .if2 .left in
+    ⊎-elim (λ t. t .1 ∙ sym (none-asked _ (t .0 .taken))) (λ t. t .1 ∙ sym (as-asked (t .0 .left) (omega (arith, t .1, within)))) (c .before .if1 .came)
 
 pub granted-credit-spec : {M : Type 1} → statement M
-granted-credit-spec = tie.close (tie.spec returns returns-2 returns-3)
+granted-credit-spec = tie.close (tie.spec returns returns-2)
