@@ -1,9 +1,10 @@
 //! Families for the grant and the error reply.
 
-use super::header::bases;
+use super::header::{bases, c2_with};
 use super::{edges, put, words};
 use crate::calls::Calls;
 use crate::check::{Checker, Outcome};
+use crate::reference::header::{Fault, Header, Kind};
 use crate::rng::Rng;
 
 const LIMITS: [u32; 6] = [0, 1, 2, 32, u32::MAX - 1, u32::MAX];
@@ -18,6 +19,30 @@ fn numbers() -> impl Iterator<Item = u32> {
 /// Those of document 01, those above, and words of which a part is 4.
 fn procedures() -> impl Iterator<Item = u32> {
     (0..=8).chain([0x0104, 0x0001_0004, 0x0400_0000, 0x0000_0400, 0x8000_0000, 0x8000_0004, u32::MAX])
+}
+
+/// The first ones, the ends, one byte alone in each place, so that 1 with its bytes turned round is among
+/// them, 1 beside another byte, and four different bytes.
+fn versions() -> Vec<u32> {
+    let bytes = [1, 2, 0x80, 0xff].into_iter().flat_map(|byte| [0, 8, 16, 24].map(|place| byte << place));
+    let beside = [0x0101, 0x0001_0001, 0x0100_0001, 0x8000_0001, 0xffff_ff01];
+    let others = [0, 3, 4, 7, 0x0102_0304, 0x0403_0201, 0x89ab_cdef, 0x7fff_ffff, u32::MAX - 1, u32::MAX];
+    bytes.chain(beside).chain(others).collect()
+}
+
+/// A version and words that have all of its bytes, some of them or none.
+fn sharing(version: u32) -> [u32; 8] {
+    let (turned, moved) = (version.swap_bytes(), version.rotate_left(8));
+    [
+        version,
+        turned,
+        moved,
+        version ^ 0xff,
+        version ^ 0xff00_0000,
+        version & 0xffff,
+        version.wrapping_add(1),
+        !version,
+    ]
 }
 
 impl Rng {
@@ -43,6 +68,17 @@ impl Rng {
             fronts.push(self.fixed(version, credit, procedure));
         }
         fronts
+    }
+
+    /// 1, one of those named, one that differs from 1 in a bit, or any.
+    fn version(&mut self) -> u32 {
+        let named = versions();
+        match self.below(4) {
+            0 => 1,
+            1 => named[self.below(named.len())],
+            2 => 1 ^ 1 << self.below(32),
+            _ => self.word(),
+        }
     }
 
     fn limit(&mut self) -> u32 {
@@ -121,6 +157,61 @@ fn replies<C: Calls>(check: &mut Checker<C>, rng: &mut Rng, cases: u64) -> Outco
     Ok(())
 }
 
+/// The version word: echoed by a version reply and by nothing else.
+pub fn echoes<C: Calls>(check: &mut Checker<C>, rng: &mut Rng, cases: u64) -> Outcome {
+    check.family("reply versions");
+    for (version, number) in versions().into_iter().flat_map(|version| (0..=22).map(move |n| (version, n))) {
+        for procedure in procedures() {
+            let (credit, limit) = (rng.word(), rng.limit());
+            let frame = rng.fixed(version, credit, procedure);
+            for (length, room) in [15, 16, 40].into_iter().flat_map(|length| ROOMS.map(|room| (length, room)))
+            {
+                check.error_reply(&frame, length, number, limit, room)?;
+            }
+        }
+    }
+    // The bytes behind would make the words whole.
+    check.family("reply versions cut off");
+    for (version, length) in versions().into_iter().flat_map(|version| (0..=16).map(move |n| (version, n))) {
+        let procedure = [0, 1, 4][rng.below(3)];
+        let frame = rng.fixed(version, 32, procedure);
+        for (number, room) in (0..=22).flat_map(|number| [0, 20, 28].map(|room| (number, room))) {
+            check.error_reply(&frame, length, number, 32, room)?;
+        }
+    }
+    check.family("reply versions shared");
+    for version in versions() {
+        for (xid, credit) in sharing(version).into_iter().flat_map(|xid| sharing(version).map(|c| (xid, c))) {
+            for procedure in sharing(version).into_iter().chain([0]) {
+                let frame = words(&[xid, version, credit, procedure]);
+                for (number, limit) in [2, 5].into_iter().flat_map(|n| [1, version, u32::MAX].map(|l| (n, l)))
+                {
+                    check.error_reply(&frame, 16, number, limit, 28)?;
+                }
+            }
+        }
+    }
+    check.family("reply versions, long");
+    for (version, number) in [1, 2, 7, u32::MAX].into_iter().flat_map(|version| [(version, 2), (version, 5)])
+    {
+        let frame = [rng.fixed(version, 32, 0), vec![0xa5; 1 << 20]].concat();
+        for (length, room) in [(frame.len(), 28), (1 << 16, 1 << 16), (16, frame.len())] {
+            check.error_reply(&frame, length, number, 32, room)?;
+        }
+    }
+    check.family("reply versions random");
+    for _ in 0..cases {
+        let (version, limit) = (rng.version(), rng.limit());
+        let words = [rng.word(), [0, 1, rng.word()][rng.below(3)]];
+        let [credit, procedure] = words.map(|word| [word, sharing(version)[rng.below(8)]][rng.below(2)]);
+        let frame = rng.fixed(version, credit, procedure);
+        let length = [40, 16, rng.below(41)][rng.below(3)];
+        let number = [2, 5, rng.below(23) as u32][rng.below(3)];
+        check.error_reply(&frame, length, number, limit, [28, rng.below(41)][rng.below(2)])?;
+    }
+    Ok(())
+}
+
 /// Frames of all sorts, each with the number that reading it gives.
 fn after_reading<C: Calls>(check: &mut Checker<C>, rng: &mut Rng, cases: u64) -> Outcome {
     check.family("read then reply");
@@ -140,6 +231,13 @@ fn after_reading<C: Calls>(check: &mut Checker<C>, rng: &mut Rng, cases: u64) ->
             }
         }
     }
+    for (version, procedure) in versions().into_iter().flat_map(|v| procedures().map(move |p| (v, p))) {
+        for code in 0..4 {
+            let frame = words(&[rng.word(), version, rng.word(), procedure, code, 0, 0]);
+            let limit = rng.limit();
+            check.read_reply(&frame, limit, 28)?;
+        }
+    }
     for _ in 0..cases {
         let mut frame = rng.edited();
         if frame.len() >= 16 && rng.below(4) == 0 {
@@ -151,8 +249,70 @@ fn after_reading<C: Calls>(check: &mut Checker<C>, rng: &mut Rng, cases: u64) ->
     Ok(())
 }
 
+/// Replies by hand: C3's, and what is easily missed about the version.
+pub fn worked<C: Calls>(check: &mut Checker<C>) -> Outcome {
+    check.family("worked replies");
+    let version = |version| words(&[0x2a, version, 0x20, 4, 1, 1, 1]);
+    let chunk = words(&[0x2a, 1, 0x20, 4, 2]);
+    let header = |fault| Header { xid: 0x2a, credit: 0x20, kind: Kind::Error(fault), ..Header::default() };
+    let (range, list) = (header(Fault::Version { low: 1, high: 1 }), header(Fault::Chunk));
+    for other in [2, 0, 7, 0x0100_0000, 0x0102_0304, u32::MAX] {
+        let frame = c2_with(1, other);
+        check.worked_reply(&frame, 2, 32, &version(other), Err(2))?;
+        check.worked_reply(&frame, 5, 32, &chunk, Ok(list.clone()))?;
+        // The reply as a frame of its own.
+        check.read(&version(other))?;
+        check.start(&version(other), 64)?;
+    }
+    check.worked_reply(&c2_with(1, 1), 2, 32, &version(1), Ok(range))?;
+    check.worked_reply(&c2_with(1, 1), 5, 32, &chunk, Ok(list))?;
+    [version(1), chunk].iter().try_for_each(|reply| check.read(reply).and_then(|()| check.start(reply, 64)))
+}
+
+/// Frames of all sorts, each with any number.
+pub fn read_back<C: Calls>(check: &mut Checker<C>, rng: &mut Rng, cases: u64) -> Outcome {
+    check.family("reply read back");
+    for (version, number) in versions().into_iter().flat_map(|version| (0..=22).map(move |n| (version, n))) {
+        for procedure in procedures() {
+            let (credit, limit, room) = (rng.word(), rng.limit(), ROOMS[rng.below(6)]);
+            let frame = rng.fixed(version, credit, procedure);
+            check.reply_back(&frame, number, 1 + rng.below(40) as u32, 28)?;
+            check.reply_back(&frame[..16], number, limit, room)?;
+        }
+    }
+    for header in bases(rng) {
+        let mut frame = rng.frame(&header, 9);
+        for version in [1, 2, rng.version()] {
+            put(&mut frame, 1, version);
+            let cut = rng.below(frame.len());
+            for number in 0..=22 {
+                check.reply_back(&frame, number, 32, 28)?;
+                check.reply_back(&frame[..cut], number, 32, 28)?;
+            }
+        }
+    }
+    for (version, number) in [(1, 2), (2, 2), (u32::MAX, 2), (1, 5), (7, 5)] {
+        let frame = [rng.fixed(version, 32, 0), vec![0xa5; 1 << 20]].concat();
+        check.reply_back(&frame, number, 32, 1 << 16)?;
+    }
+    check.family("reply read back random");
+    for _ in 0..cases {
+        let mut frame = rng.edited();
+        if frame.len() >= 8 && rng.below(2) == 0 {
+            let version = rng.version();
+            put(&mut frame, 1, version);
+        }
+        let (limit, number) = (rng.limit(), [2, 5, rng.below(23) as u32][rng.below(3)]);
+        check.reply_back(&frame, number, limit, [28, rng.below(41)][rng.below(2)])?;
+    }
+    Ok(())
+}
+
 pub fn run<C: Calls>(check: &mut Checker<C>, rng: &mut Rng, cases: u64) -> Outcome {
     grants(check, rng, cases)?;
+    worked(check)?;
     replies(check, rng, cases)?;
-    after_reading(check, rng, cases)
+    echoes(check, rng, cases)?;
+    after_reading(check, rng, cases)?;
+    read_back(check, rng, cases)
 }

@@ -202,7 +202,7 @@ impl<C: Calls> Checker<C> {
         let length = assembly::ask(&natural, state.buffer).expect("a finished state");
         let inline = if state.kind == NOMSG { 0 } else { state.base };
         let chunks = natural.reads.chunk_by(|one, two| one.position == two.position).count();
-        let forms = [
+        self.seen.forms(&[
             (if state.kind == NOMSG { Form::NomsgFinished } else { Form::MsgFinished }, true),
             (Form::PaddedFinished, length > inline + state.taken),
             (Form::SixteenChunksFinished, chunks == MAX_READS),
@@ -212,8 +212,7 @@ impl<C: Calls> Checker<C> {
             (Form::ApartFinished, apart(wire)),
             (Form::BaseLastFinished, last_at_zero && wire[0].position > 0),
             (Form::FallingFinished, falls && wire.len() == MAX_READS),
-        ];
-        forms.into_iter().filter(|(_, seen)| *seen).for_each(|(form, _)| self.seen.form(form));
+        ]);
     }
 
     /// The implementation alone, with no look at the reference; beside its trace the goes of each piece.

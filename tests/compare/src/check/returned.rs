@@ -105,14 +105,13 @@ impl<C: Calls> Checker<C> {
         let lent = bytes(&sent.writes, count);
         let full = (written, landed.reply) == (lent, bytes(&sent.reply, sent.reply_count));
         let [missing, back] = [0, 1].map(|flag| reply.kind == MSG && reply.reply_present == flag);
-        let forms = [
+        self.seen.forms(&[
             (Form::MsgWithoutReplyChunk, missing && sent.reply_present == 1),
             (Form::MsgWithReplyChunk, back && sent.reply_count > 0),
             (Form::NomsgLanded, reply.kind == NOMSG && landed.reply > 0),
             (Form::PartLanded, (1..lent).contains(&written)),
             (Form::AllLanded, full && (count, reply.reply_count) == (16, 16)),
             (Form::LandedAbove32Bits, landed.writes.iter().any(|&bytes| bytes > u64::from(u32::MAX))),
-        ];
-        forms.into_iter().filter(|(_, seen)| *seen).for_each(|(form, _)| self.seen.form(form));
+        ]);
     }
 }

@@ -46,6 +46,13 @@ pub enum Form {
     VersionReply,
     ChunkReply,
     ChunkReplyFor8,
+    VersionEchoed,
+    VersionReplyTo1,
+    ChunkReplyToOther,
+    VersionReadAs2,
+    VersionReadAs0,
+    ChunkToOtherRead,
+    NoReplyToReply,
     UnsortedRead,
     UnsortedWritten,
     MsgFinished,
@@ -72,13 +79,20 @@ pub enum Form {
     OneHeaderAsBoth,
 }
 
-const FORMS: [&str; 30] = [
+const FORMS: [&str; 37] = [
     "setup data",
     "no setup data",
     "no reply",
     "version reply",
     "chunk reply",
     "chunk reply for 8",
+    "version reply to another version",
+    "version reply to version 1",
+    "chunk reply to another version",
+    "version reply read back with 2",
+    "version reply read back with 0",
+    "chunk reply to another version read back with 0",
+    "reply that gets no reply",
     "unsorted list read",
     "unsorted list written",
     "MSG finished",
@@ -109,7 +123,6 @@ const FORMS: [&str; 30] = [
 pub const MOST_GOES: u32 = 31;
 
 /// What the implementation answered so far.
-#[derive(Default)]
 pub struct Seen {
     numbers: [BTreeMap<u32, u64>; CALLS.len()],
     /// Of pieces that were taken; each count up to the bound must be seen.
@@ -117,8 +130,20 @@ pub struct Seen {
     forms: [u64; FORMS.len()],
 }
 
+// By hand: none is derived for an array this long.
+impl Default for Seen {
+    fn default() -> Self {
+        Seen { numbers: Default::default(), goes: BTreeMap::new(), forms: [0; FORMS.len()] }
+    }
+}
+
 fn listed(counts: &BTreeMap<u32, u64>) -> String {
     counts.iter().map(|(what, seen)| format!("{what}:{seen}")).collect::<Vec<_>>().join(" ")
+}
+
+/// Whether a frame has another version than 1.
+fn is_other(frame: &[u8]) -> bool {
+    frame.get(4..8) != Some(&[0, 0, 0, 1])
 }
 
 impl Seen {
@@ -137,18 +162,34 @@ impl Seen {
         self.forms[form as usize] += 1;
     }
 
-    /// The answer to an error reply for an answer number.
-    pub fn reply(&mut self, about: u32, number: u32, length: usize) {
+    /// Those that were seen.
+    pub fn forms(&mut self, forms: &[(Form, bool)]) {
+        forms.iter().filter(|(_, seen)| *seen).for_each(|(form, _)| self.form(*form));
+    }
+
+    /// The answer to an error reply for a frame and an answer number.
+    pub fn reply(&mut self, frame: &[u8], about: u32, number: u32, length: usize) {
         self.number(Call::ErrorReply, number);
-        if (about, number, length) == (8, 0, 20) {
-            self.form(Form::ChunkReplyFor8);
-        }
-        match (number, length) {
-            (0, 0) => self.form(Form::NoReply),
-            (0, 20) => self.form(Form::ChunkReply),
-            (0, 28) => self.form(Form::VersionReply),
-            _ => {}
-        }
+        let [none, chunk, version] = [0, 20, 28].map(|long| (number, length) == (0, long));
+        self.forms(&[
+            (Form::NoReply, none),
+            (Form::VersionReply, version),
+            (Form::ChunkReply, chunk),
+            (Form::ChunkReplyFor8, chunk && about == 8),
+            (Form::VersionEchoed, version && is_other(frame)),
+            (Form::VersionReplyTo1, version && !is_other(frame)),
+            (Form::ChunkReplyToOther, chunk && is_other(frame)),
+        ]);
+    }
+
+    /// The number that a reply to a frame was read back with.
+    pub fn read_back(&mut self, frame: &[u8], length: usize, number: u32) {
+        let [chunk, version] = [20, 28].map(|long| length == long);
+        self.forms(&[
+            (Form::VersionReadAs2, version && number == 2),
+            (Form::VersionReadAs0, version && number == 0),
+            (Form::ChunkToOtherRead, chunk && is_other(frame) && number == 0),
+        ]);
     }
 
     /// A line for each call, one for the goes, then one for each form.
@@ -184,6 +225,7 @@ impl Seen {
 #[cfg(test)]
 mod tests {
     use super::*;
+    use crate::cases::words;
 
     /// 8 is never given, by whatever call, nor is a number that the call does not check.
     #[test]
@@ -213,5 +255,38 @@ mod tests {
         let mut seen = Seen::default();
         seen.piece(PieceAnswer { number: 0, goes: 32 });
         assert_eq!(seen.unwanted(), ["a piece took 32 goes"]);
+    }
+
+    /// A frame's version tells the replies to it apart; none stands for another.
+    #[test]
+    fn forms_of_replies() {
+        use Form::*;
+        let frame = |version| words(&[0x2a, version, 0x20, 0]);
+        let told = |see: &dyn Fn(&mut Seen), want: &[Form]| {
+            let mut seen = Seen::default();
+            see(&mut seen);
+            let mut counts = [0; FORMS.len()];
+            want.iter().for_each(|form| counts[*form as usize] += 1);
+            assert_eq!(seen.forms, counts);
+            want.iter().for_each(|form| {
+                let never = format!("{} never seen", FORMS[*form as usize]);
+                assert!(Seen::default().missing().contains(&never) && !seen.missing().contains(&never));
+            });
+        };
+        told(&|seen| seen.reply(&frame(1), 2, 0, 28), &[VersionReply, VersionReplyTo1]);
+        told(&|seen| seen.reply(&frame(1), 8, 0, 20), &[ChunkReply, ChunkReplyFor8]);
+        for other in [0, 2, 0x0101, 0x0100_0000, 0x0100_0001, u32::MAX] {
+            let frame = &frame(other);
+            told(&|seen| seen.reply(frame, 2, 0, 28), &[VersionReply, VersionEchoed]);
+            told(&|seen| seen.reply(frame, 5, 0, 20), &[ChunkReply, ChunkReplyToOther]);
+            told(&|seen| seen.reply(frame, 0, 0, 0), &[NoReply]);
+            told(&|seen| seen.reply(frame, 2, 16, 28), &[]);
+            told(&|seen| seen.reply(frame, 5, 20, 20), &[]);
+            told(&|seen| seen.read_back(frame, 20, 0), &[ChunkToOtherRead]);
+        }
+        told(&|seen| seen.read_back(&frame(1), 20, 0), &[]);
+        told(&|seen| seen.read_back(&frame(1), 28, 0), &[VersionReadAs0]);
+        told(&|seen| seen.read_back(&frame(2), 28, 2), &[VersionReadAs2]);
+        told(&|seen| seen.read_back(&frame(2), 20, 2), &[]);
     }
 }

@@ -25,37 +25,44 @@ const REPLIES: [ReplyKind; 22] = {
     [N, N, V, C, N, C, C, C, C, C, N, C, C, C, C, C, N, N, N, N, N, N]
 };
 
-/// The fixed words and then the error's own; their lengths are known to the compiler.
-fn put_reply<const N: usize>(fixed: u128, error: [u8; N], out: &mut [u8], length: &mut usize) -> u32 {
-    if let Some((start, behind)) = out.split_first_chunk_mut::<16>() {
-        if let Some(end) = behind.first_chunk_mut::<N>() {
-            (*start, *end) = (fixed.to_be_bytes(), error);
-            *length = 16 + N;
-            return 0;
-        }
-    }
-    16
+/// The replies, with zeros where the frame's first words and the grant go: xid and version, or the xid alone.
+const VERSION: [u8; 28] =
+    [0, 0, 0, 0, 0, 0, 0, 0, 0, 0, 0, 0, 0, 0, 0, 4, 0, 0, 0, 1, 0, 0, 0, 1, 0, 0, 0, 1];
+const CHUNK: [u8; 20] = [0, 0, 0, 0, 0, 0, 0, 1, 0, 0, 0, 0, 0, 0, 0, 4, 0, 0, 0, 2];
+
+/// Puts a reply with the first `F` bytes of the frame; the lengths are known to the compiler.
+fn put_reply<const F: usize, const N: usize>(
+    fixed: &[u8; 16],
+    grant: u32,
+    mut reply: [u8; N],
+    out: &mut [u8],
+    length: &mut usize,
+) -> u32 {
+    let Some(place) = out.first_chunk_mut::<N>() else { return 16 };
+    reply[..F].copy_from_slice(&fixed[..F]);
+    reply[8..12].copy_from_slice(&grant.to_be_bytes());
+    *place = reply;
+    *length = N;
+    0
 }
 
 #[inline(never)]
 fn plain_error_reply(frame: &[u8], number: u32, limit: u32, out: &mut [u8], length: &mut usize) -> u32 {
-    let mut kind = match REPLIES.get(number as usize) {
+    let kind = match REPLIES.get(number as usize) {
         Some(kind) if limit > 0 => *kind,
         _ => return 20,
     };
-    let fixed = frame.first_chunk::<16>().map_or(4, |bytes| u128::from_be_bytes(*bytes));
-    let (xid, asked, procedure) = (fixed >> 96, (fixed >> 32) as u32, fixed as u32);
-    if procedure == 4 {
-        kind = ReplyKind::None;
-    }
-    let fixed = xid << 96 | 1 << 64 | u128::from(asked.clamp(1, limit)) << 32 | 4;
-    match kind {
-        ReplyKind::None => {
+    let fixed = match frame.first_chunk::<16>() {
+        Some(fixed) if kind != ReplyKind::None && fixed[12..] != [0, 0, 0, 4] => fixed,
+        _ => {
             *length = 0;
-            0
+            return 0;
         }
-        ReplyKind::Version => put_reply(fixed, [0, 0, 0, 1, 0, 0, 0, 1, 0, 0, 0, 1], out, length),
-        ReplyKind::Chunk => put_reply(fixed, [0, 0, 0, 2], out, length),
+    };
+    let grant = u32::from_be_bytes([fixed[8], fixed[9], fixed[10], fixed[11]]).clamp(1, limit);
+    match kind {
+        ReplyKind::Version => put_reply::<8, 28>(fixed, grant, VERSION, out, length),
+        _ => put_reply::<4, 20>(fixed, grant, CHUNK, out, length),
     }
 }
 

@@ -5,7 +5,8 @@ use super::order::Mistake::{
     CheckedBeforeSorting, PulledInWireOrder, RefusedStateSorted, Signed, StartSortsFrame, StateGives8,
     StateInWireOrder,
 };
-use super::reply::Mistake::{ReplyToError, ReplyToErrorOfOtherVersion};
+use super::reply::is_echo;
+use super::reply::Mistake::{ReplyToError, ReplyToErrorOfOtherVersion, StartOfEchoAs12};
 use super::{can_fail, is_found, mistakes, store_behind, Wrong};
 use crate::calls::AssemblyCalls;
 use crate::cases::assembly::{self as families, c6, c9, PULLED};
@@ -539,6 +540,9 @@ fn rounded_up(length: usize) -> usize {
 
 impl AssemblyCalls for Wrong {
     fn start(&self, frame: &mut [u8], out: &mut [u8], state: &mut ffi::State) -> u32 {
+        if *self == Reply(StartOfEchoAs12) && is_echo(frame) {
+            return 12;
+        }
         self.faulty_start(frame, out, state)
     }
 

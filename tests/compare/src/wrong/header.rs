@@ -1,6 +1,6 @@
 //! Headers with one mistake.
 
-use super::{can_fail, is_found, mistakes, order, store_behind, Wrong};
+use super::{can_fail, is_found, mistakes, order, reply, store_behind, Wrong};
 use crate::calls::HeaderCalls;
 use crate::cases::header::{c2, full, run};
 use crate::convert::flatten;
@@ -10,7 +10,7 @@ use crate::rng::Rng;
 use crate::words::Words;
 use eoswynnor::ffi;
 use Mistake::*;
-use Wrong::{Header, Order};
+use Wrong::{Header, Order, Reply};
 
 mistakes! {
     // Reading.
@@ -35,8 +35,10 @@ mistakes! {
 
 impl HeaderCalls for Wrong {
     fn read_header(&self, frame: &mut [u8], header: &mut ffi::Header) -> u32 {
-        if let Order(mistake) = *self {
-            return order::read(mistake, frame, header);
+        match *self {
+            Order(mistake) => return order::read(mistake, frame, header),
+            Reply(mistake) => return reply::read(mistake, frame, header),
+            _ => {}
         }
         let before = *header;
         let number = Plain.read_header(frame, header);
@@ -85,6 +87,9 @@ impl HeaderCalls for Wrong {
     }
 
     fn payload(&self, frame: &mut [u8]) -> ffi::Part {
+        if let Reply(mistake) = *self {
+            return reply::payload(mistake, frame);
+        }
         let mut part = Plain.payload(frame);
         match *self {
             Header(PayloadCutToWords) => part.length &= !3,
