@@ -26,7 +26,7 @@ use Rattle.error_reply.specs.declared.ReplyKind.{ReplyKind}
 use Rattle.error_reply.specs.declared.ReplyKind.the-variants as reply
 use Rattle.wire.specs.Fits.{AllBytes, Word32, All}
 use Rattle.header.specs.Fits.{ErrorFits}
-use Rattle.error_reply.specs.Meant.{meant}
+use Rattle.error_reply.specs.Meant.{meant, writtenReply}
 use Rattle.header.proofs.Allowed.{Allowed}
 use Rattle.wire.proofs.WordBytes.{join-bytes, word-fits, word-front}
 use Rattle.reader.proofs.ReadBack.{header-back}
@@ -73,13 +73,13 @@ error-allowed e xid credit f x c = record {
 
 -- What was written is the reply.
 reply-written : (frame out : List ℕ) (number limit : ℕ) → errorReplyNumber frame number limit (length out) ≡ 0 →
-    take (errorReplyAnswer frame number limit (length out) .length) (errorReplyBuffer frame number limit out) ≡ errorReply frame number limit
+    writtenReply frame number limit out ≡ errorReply frame number limit
 unfolding errorReplyAnswer errorReplyBuffer
 reply-written frame out number limit zero = simp (zero, take-append-seam)
 
 -- A chunk reply that was written is read as the error that it is meant to name, with the frame's xid and the grant; so is a version reply to a frame of version 1.
 pub reply-read : (frame out : List ℕ) (number limit : ℕ) (e : ErrorKind) → AllBytes frame → Word32 limit → errorReplyNumber frame number limit (length out) ≡ 0 → meant (replyKindFor frame number) ≡ some e → (replyKindFor frame number ≡ reply.Version → wordAt frame 4 ≡ 1) →
-    readFrame (take (errorReplyAnswer frame number limit (length out) .length) (errorReplyBuffer frame number limit out)) ≡ done (errorContent e (wordAt frame 0) (granted (wordAt frame 8) limit)) []
+    readFrame (writtenReply frame number limit out) ≡ done (errorContent e (wordAt frame 0) (granted (wordAt frame 8) limit)) []
 unfolding errorReply
 reply-read frame out number limit e b fits zero m one =
     let bytes = reply-bytes (replyKindFor frame number) e (wordAt frame 0) (wordAt frame 4) (granted (wordAt frame 8) limit) m one in
@@ -89,15 +89,15 @@ reply-read frame out number limit e b fits zero m one =
 
 -- So it reads back as that ERROR header, with nothing behind.
 pub reply-read-answer : (frame out : List ℕ) (number limit : ℕ) (e : ErrorKind) → AllBytes frame → Word32 limit → errorReplyNumber frame number limit (length out) ≡ 0 → meant (replyKindFor frame number) ≡ some e → (replyKindFor frame number ≡ reply.Version → wordAt frame 4 ≡ 1) →
-    (readAnswer (readFrame (take (errorReplyAnswer frame number limit (length out) .length) (errorReplyBuffer frame number limit out))) ≡ record { header = headerOf (errorContent e (wordAt frame 0) (granted (wordAt frame 8) limit)); number = 0 })
-    × (payloadOf (readFrame (take (errorReplyAnswer frame number limit (length out) .length) (errorReplyBuffer frame number limit out))) ≡ [])
+    (readAnswer (readFrame (writtenReply frame number limit out)) ≡ record { header = headerOf (errorContent e (wordAt frame 0) (granted (wordAt frame 8) limit)); number = 0 })
+    × (payloadOf (readFrame (writtenReply frame number limit out)) ≡ [])
 reply-read-answer frame out number limit e b fits zero m one = rw (reply-read frame out number limit e b fits zero m one) (refl, refl)
 
 -- The same through the exports.
 pub export-reply-read : (frame out before : List ℕ) (number limit : ℕ) (e : ErrorKind) → AllBytes frame → Word32 limit → errorReplyNumber frame number limit (length out) ≡ 0 → meant (replyKindFor frame number) ≡ some e → (replyKindFor frame number ≡ reply.Version → wordAt frame 4 ≡ 1) →
-    (readNumber (readFrame (take (errorReplyAnswer frame number limit (length out) .length) (errorReplyBuffer frame number limit out))) ≡ 0)
-    × (readWords (readFrame (take (errorReplyAnswer frame number limit (length out) .length) (errorReplyBuffer frame number limit out))) before ≡ headerWords (headerOf (errorContent e (wordAt frame 0) (granted (wordAt frame 8) limit))))
-    × (payloadOf (readFrame (take (errorReplyAnswer frame number limit (length out) .length) (errorReplyBuffer frame number limit out))) ≡ [])
+    (readNumber (readFrame (writtenReply frame number limit out)) ≡ 0)
+    × (readWords (readFrame (writtenReply frame number limit out)) before ≡ headerWords (headerOf (errorContent e (wordAt frame 0) (granted (wordAt frame 8) limit))))
+    × (payloadOf (readFrame (writtenReply frame number limit out)) ≡ [])
 export-reply-read frame out before number limit e b fits zero m one = rw (reply-read frame out number limit e b fits zero m one) (refl, refl, refl)
 
 -- "Reading such a reply back gives 2 unless its second word is 1."
@@ -106,21 +106,21 @@ unfolding readFrame words joined wordBytes wordAt
 other-version xid version credit fits other = rw (join-bytes version fits, ne-eqb version 1 other) refl
 
 pub other-read : (frame out : List ℕ) (number limit : ℕ) → AllBytes frame → errorReplyNumber frame number limit (length out) ≡ 0 → replyKindFor frame number ≡ reply.Version → (wordAt frame 4 ≡ 1 → ⊥) →
-    readFrame (take (errorReplyAnswer frame number limit (length out) .length) (errorReplyBuffer frame number limit out)) ≡ refused 2
+    readFrame (writtenReply frame number limit out) ≡ refused 2
 unfolding errorReply
 other-read frame out number limit b zero version other =
     rw (reply-written frame out number limit zero, version) (other-version (wordAt frame 0) (wordAt frame 4) (granted (wordAt frame 8) limit) (word-fits frame 4 b) other)
 
 -- So reading gives 2, the all-zero header and no payload; through the exports 2, and the caller's header as it was.
 pub other-read-answer : (frame out : List ℕ) (number limit : ℕ) → AllBytes frame → errorReplyNumber frame number limit (length out) ≡ 0 → replyKindFor frame number ≡ reply.Version → (wordAt frame 4 ≡ 1 → ⊥) →
-    (readAnswer (readFrame (take (errorReplyAnswer frame number limit (length out) .length) (errorReplyBuffer frame number limit out))) ≡ record { header = headerOf nothing; number = 2 })
-    × (payloadOf (readFrame (take (errorReplyAnswer frame number limit (length out) .length) (errorReplyBuffer frame number limit out))) ≡ [])
+    (readAnswer (readFrame (writtenReply frame number limit out)) ≡ record { header = headerOf nothing; number = 2 })
+    × (payloadOf (readFrame (writtenReply frame number limit out)) ≡ [])
 other-read-answer frame out number limit b zero version other = rw (other-read frame out number limit b zero version other) (refl, refl)
 
 pub export-other-read : (frame out before : List ℕ) (number limit : ℕ) → AllBytes frame → errorReplyNumber frame number limit (length out) ≡ 0 → replyKindFor frame number ≡ reply.Version → (wordAt frame 4 ≡ 1 → ⊥) →
-    (readNumber (readFrame (take (errorReplyAnswer frame number limit (length out) .length) (errorReplyBuffer frame number limit out))) ≡ 2)
-    × (readWords (readFrame (take (errorReplyAnswer frame number limit (length out) .length) (errorReplyBuffer frame number limit out))) before ≡ before)
-    × (payloadOf (readFrame (take (errorReplyAnswer frame number limit (length out) .length) (errorReplyBuffer frame number limit out))) ≡ [])
+    (readNumber (readFrame (writtenReply frame number limit out)) ≡ 2)
+    × (readWords (readFrame (writtenReply frame number limit out)) before ≡ before)
+    × (payloadOf (readFrame (writtenReply frame number limit out)) ≡ [])
 export-other-read frame out before number limit b zero version other = rw (other-read frame out number limit b zero version other) (refl, refl, refl)
 
 -- A frame that gets a reply has its fixed words.
@@ -138,20 +138,20 @@ two-words frame b long =
     sym (ap (λ (t : List ℕ). wordBytes (wordAt frame 0) ++ t) (word-front frame 4 8 b refl (omega arith)) ∙ word-front frame 0 4 b refl (omega arith))
 
 -- "In a version reply the second word becomes the frame's version word; low and high stay 1.": xid and version byte by byte as they came.
-pub version-reply : (frame : List ℕ) (number limit : ℕ) → AllBytes frame → replyKindFor frame number ≡ reply.Version →
-    errorReply frame number limit ≡ take 8 frame ++ wordBytes (granted (wordAt frame 8) limit) ++ (0 ∷ 0 ∷ 0 ∷ 4 ∷ 0 ∷ 0 ∷ 0 ∷ 1 ∷ 0 ∷ 0 ∷ 0 ∷ 1 ∷ 0 ∷ 0 ∷ 0 ∷ 1 ∷ [])
+pub version-reply : (frame out : List ℕ) (number limit : ℕ) → AllBytes frame → errorReplyNumber frame number limit (length out) ≡ 0 → replyKindFor frame number ≡ reply.Version →
+    writtenReply frame number limit out ≡ take 8 frame ++ wordBytes (granted (wordAt frame 8) limit) ++ (0 ∷ 0 ∷ 0 ∷ 4 ∷ 0 ∷ 0 ∷ 0 ∷ 1 ∷ 0 ∷ 0 ∷ 0 ∷ 1 ∷ 0 ∷ 0 ∷ 0 ∷ 1 ∷ [])
 unfolding errorReply words joined wordBytes
-version-reply frame number limit b version =
+version-reply frame out number limit b zero version =
     let first = ap (take 8) (two-words frame b (replied-long frame number _ (ap meant version))) in
-    rw (version, first) refl
+    rw (reply-written frame out number limit zero, version, first) refl
 
 -- "A chunk reply keeps its second word 1, whatever the frame's."
-pub chunk-reply : (frame : List ℕ) (number limit : ℕ) → AllBytes frame → replyKindFor frame number ≡ reply.Chunk →
-    errorReply frame number limit ≡ take 4 frame ++ (0 ∷ 0 ∷ 0 ∷ 1 ∷ []) ++ wordBytes (granted (wordAt frame 8) limit) ++ (0 ∷ 0 ∷ 0 ∷ 4 ∷ 0 ∷ 0 ∷ 0 ∷ 2 ∷ [])
+pub chunk-reply : (frame out : List ℕ) (number limit : ℕ) → AllBytes frame → errorReplyNumber frame number limit (length out) ≡ 0 → replyKindFor frame number ≡ reply.Chunk →
+    writtenReply frame number limit out ≡ take 4 frame ++ (0 ∷ 0 ∷ 0 ∷ 1 ∷ []) ++ wordBytes (granted (wordAt frame 8) limit) ++ (0 ∷ 0 ∷ 0 ∷ 4 ∷ 0 ∷ 0 ∷ 0 ∷ 2 ∷ [])
 unfolding errorReply words joined wordBytes
-chunk-reply frame number limit b chunk =
+chunk-reply frame out number limit b zero chunk =
     let first = ap (take 4) (two-words frame b (replied-long frame number _ (ap meant chunk))) in
-    rw (chunk, first) refl
+    rw (reply-written frame out number limit zero, chunk, first) refl
 
 -- "no reply (number 0, length 0, buffer unchanged)"
 pub no-reply : (frame out : List ℕ) (number limit : ℕ) → 1 ≤ limit → number ≤ 21 → replyKindFor frame number ≡ reply.None →

@@ -28,8 +28,8 @@ use Rattle.setup.specs.Setup.{readSetup, writeSetupNumber, writeSetupAnswer, wr
 use Rattle.setup.specs.declared.Setup.{Setup}
 use Rattle.setup.proofs.RoundTrip as setup-trip
 use Rattle.credit.specs.Credit.{granted}
-use Rattle.error_reply.specs.Reply.{replyKindFor, errorReply, errorReplyNumber, errorReplyAnswer, errorReplyBuffer}
-use Rattle.error_reply.specs.Meant.{meant}
+use Rattle.error_reply.specs.Reply.{replyKindFor, errorReply, errorReplyNumber}
+use Rattle.error_reply.specs.Meant.{meant, writtenReply}
 use Rattle.error_reply.specs.declared.ReplyKind.the-variants as reply
 use Rattle.error_reply.proofs.ReplyRead as reply-read
 use Rattle.read_order.specs.ReadOrder.{sorted, isSorted}
@@ -154,14 +154,14 @@ exports-demand-3 = exports.exports-unchanged
 
 -- A chunk reply that was written reads back as the ERROR header that it is meant to be, and so does a version reply to a frame of version 1 (to any other frame: order 4, below). No reply is itself answered.
 pub reply-reads-back : (frame out : List ℕ) (number limit : ℕ) (e : ErrorKind) → AllBytes frame → Word32 limit → errorReplyNumber frame number limit (length out) ≡ 0 → meant (replyKindFor frame number) ≡ some e → (replyKindFor frame number ≡ reply.Version → wordAt frame 4 ≡ 1) →
-    (readAnswer (readFrame (take (errorReplyAnswer frame number limit (length out) .length) (errorReplyBuffer frame number limit out))) ≡ record { header = headerOf (errorContent e (wordAt frame 0) (granted (wordAt frame 8) limit)); number = 0 })
-    × (payloadOf (readFrame (take (errorReplyAnswer frame number limit (length out) .length) (errorReplyBuffer frame number limit out))) ≡ [])
+    (readAnswer (readFrame (writtenReply frame number limit out)) ≡ record { header = headerOf (errorContent e (wordAt frame 0) (granted (wordAt frame 8) limit)); number = 0 })
+    × (payloadOf (readFrame (writtenReply frame number limit out)) ≡ [])
 reply-reads-back = reply-read.reply-read-answer
 
 pub exports-reply-reads-back : (frame out before : List ℕ) (number limit : ℕ) (e : ErrorKind) → AllBytes frame → Word32 limit → errorReplyNumber frame number limit (length out) ≡ 0 → meant (replyKindFor frame number) ≡ some e → (replyKindFor frame number ≡ reply.Version → wordAt frame 4 ≡ 1) →
-    (readNumber (readFrame (take (errorReplyAnswer frame number limit (length out) .length) (errorReplyBuffer frame number limit out))) ≡ 0)
-    × (readWords (readFrame (take (errorReplyAnswer frame number limit (length out) .length) (errorReplyBuffer frame number limit out))) before ≡ headerWords (headerOf (errorContent e (wordAt frame 0) (granted (wordAt frame 8) limit))))
-    × (payloadOf (readFrame (take (errorReplyAnswer frame number limit (length out) .length) (errorReplyBuffer frame number limit out))) ≡ [])
+    (readNumber (readFrame (writtenReply frame number limit out)) ≡ 0)
+    × (readWords (readFrame (writtenReply frame number limit out)) before ≡ headerWords (headerOf (errorContent e (wordAt frame 0) (granted (wordAt frame 8) limit))))
+    × (payloadOf (readFrame (writtenReply frame number limit out)) ≡ [])
 exports-reply-reads-back = reply-read.export-reply-read
 
 pub reply-never-answered : (frame : List ℕ) (number limit later : ℕ) → replyKindFor (errorReply frame number limit) later ≡ reply.None
@@ -338,25 +338,25 @@ pub order-3-cases : All Holds orderCases
 order-3-cases = worked.in-any-order
 
 -- Order 4: "In a version reply the second word becomes the frame's version word; low and high stay 1.": xid and version are the frame's first eight bytes.
-pub order-4-version-reply : (frame : List ℕ) (number limit : ℕ) → AllBytes frame → replyKindFor frame number ≡ reply.Version →
-    errorReply frame number limit ≡ take 8 frame ++ wordBytes (granted (wordAt frame 8) limit) ++ (0 ∷ 0 ∷ 0 ∷ 4 ∷ 0 ∷ 0 ∷ 0 ∷ 1 ∷ 0 ∷ 0 ∷ 0 ∷ 1 ∷ 0 ∷ 0 ∷ 0 ∷ 1 ∷ [])
+pub order-4-version-reply : (frame out : List ℕ) (number limit : ℕ) → AllBytes frame → errorReplyNumber frame number limit (length out) ≡ 0 → replyKindFor frame number ≡ reply.Version →
+    writtenReply frame number limit out ≡ take 8 frame ++ wordBytes (granted (wordAt frame 8) limit) ++ (0 ∷ 0 ∷ 0 ∷ 4 ∷ 0 ∷ 0 ∷ 0 ∷ 1 ∷ 0 ∷ 0 ∷ 0 ∷ 1 ∷ 0 ∷ 0 ∷ 0 ∷ 1 ∷ [])
 order-4-version-reply = reply-read.version-reply
 
 -- "A chunk reply keeps its second word 1, whatever the frame's."
-pub order-4-chunk-reply : (frame : List ℕ) (number limit : ℕ) → AllBytes frame → replyKindFor frame number ≡ reply.Chunk →
-    errorReply frame number limit ≡ take 4 frame ++ (0 ∷ 0 ∷ 0 ∷ 1 ∷ []) ++ wordBytes (granted (wordAt frame 8) limit) ++ (0 ∷ 0 ∷ 0 ∷ 4 ∷ 0 ∷ 0 ∷ 0 ∷ 2 ∷ [])
+pub order-4-chunk-reply : (frame out : List ℕ) (number limit : ℕ) → AllBytes frame → errorReplyNumber frame number limit (length out) ≡ 0 → replyKindFor frame number ≡ reply.Chunk →
+    writtenReply frame number limit out ≡ take 4 frame ++ (0 ∷ 0 ∷ 0 ∷ 1 ∷ []) ++ wordBytes (granted (wordAt frame 8) limit) ++ (0 ∷ 0 ∷ 0 ∷ 4 ∷ 0 ∷ 0 ∷ 0 ∷ 2 ∷ [])
 order-4-chunk-reply = reply-read.chunk-reply
 
 -- "Reading such a reply back gives 2 unless its second word is 1." (If it is 1: `reply-reads-back`.)
 pub order-4-other-version : (frame out : List ℕ) (number limit : ℕ) → AllBytes frame → errorReplyNumber frame number limit (length out) ≡ 0 → replyKindFor frame number ≡ reply.Version → (wordAt frame 4 ≡ 1 → ⊥) →
-    (readAnswer (readFrame (take (errorReplyAnswer frame number limit (length out) .length) (errorReplyBuffer frame number limit out))) ≡ record { header = headerOf nothing; number = 2 })
-    × (payloadOf (readFrame (take (errorReplyAnswer frame number limit (length out) .length) (errorReplyBuffer frame number limit out))) ≡ [])
+    (readAnswer (readFrame (writtenReply frame number limit out)) ≡ record { header = headerOf nothing; number = 2 })
+    × (payloadOf (readFrame (writtenReply frame number limit out)) ≡ [])
 order-4-other-version = reply-read.other-read-answer
 
 pub exports-order-4-other-version : (frame out before : List ℕ) (number limit : ℕ) → AllBytes frame → errorReplyNumber frame number limit (length out) ≡ 0 → replyKindFor frame number ≡ reply.Version → (wordAt frame 4 ≡ 1 → ⊥) →
-    (readNumber (readFrame (take (errorReplyAnswer frame number limit (length out) .length) (errorReplyBuffer frame number limit out))) ≡ 2)
-    × (readWords (readFrame (take (errorReplyAnswer frame number limit (length out) .length) (errorReplyBuffer frame number limit out))) before ≡ before)
-    × (payloadOf (readFrame (take (errorReplyAnswer frame number limit (length out) .length) (errorReplyBuffer frame number limit out))) ≡ [])
+    (readNumber (readFrame (writtenReply frame number limit out)) ≡ 2)
+    × (readWords (readFrame (writtenReply frame number limit out)) before ≡ before)
+    × (payloadOf (readFrame (writtenReply frame number limit out)) ≡ [])
 exports-order-4-other-version = reply-read.export-other-read
 
 -- Order 4, case by case.
