@@ -37,7 +37,7 @@ reply-bytes : (kind : ReplyKind) (e : ErrorKind) (xid version credit : ℕ) → 
 unfolding words joined wordBytes headerBytes fixedBytes errorBytes
 reply-bytes reply.None e xid version credit m one = absurd (Option·none-ne-some e m)
 reply-bytes reply.Version e xid version credit m one =
-    subst (λ (x : ErrorKind). words (replyWords reply.Version xid version credit) ≡ headerBytes (errorContent x xid credit)) (Option·some-injective _ _ m) (rw (one refl) refl)
+    subst (λ (x : ErrorKind). words (replyWords reply.Version xid version credit) ≡ headerBytes (errorContent x xid credit)) (Option·some-injective _ _ m) (ap (λ (v : ℕ). words (replyWords reply.Version xid v credit)) (one refl))
 reply-bytes reply.Chunk e xid version credit m one =
     subst (λ (x : ErrorKind). words (replyWords reply.Chunk xid version credit) ≡ headerBytes (errorContent x xid credit)) (Option·some-injective _ _ m) refl
 
