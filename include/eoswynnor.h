@@ -222,10 +222,11 @@ uint32_t eos_grant(uint32_t asked, uint32_t limit, uint32_t *credit);
 
 /* Writes the reply to a frame that was answered with a number, which is the caller's to hand in as it was given: 2 gets
  * a version error (28 bytes), 3, 5 to 9 and 11 to 15 a chunk error (20 bytes), the others up to 21 none. A frame under 16
- * bytes or with an ERROR header gets none. Where there is none the number is 0 and the length 0: send nothing. The reply
- * carries the frame's xid and the grant for its credit word under limit, our credit limit. A version error has the frame's
- * own version word, whatever it is, by which its sender finds the call, and low and high 1; eos_read_header() gives 2 for
- * it unless that word is 1. A chunk error has version 1. Numbers 20 (for 26 too, which is above 21), then 16. */
+ * bytes or with procedure 4 (ERROR), of whatever version, gets none. Where there is none the number is 0 and the length 0:
+ * send nothing. The reply carries the frame's xid and the grant for its credit word under limit, our credit limit. A
+ * version error has the frame's own version word, whatever it is, by which its sender matches it, and low and high 1;
+ * eos_read_header() gives 2 for it unless that word is 1. A chunk error has version 1. Numbers 20 (limit 0, or a number
+ * above 21, 26 too), then 16. */
 uint32_t eos_error_reply(const uint8_t *frame, size_t frame_len, uint32_t number, uint32_t limit, uint8_t *out,
                          size_t out_len, size_t *length);
 

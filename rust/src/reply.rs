@@ -12,7 +12,7 @@ pub fn grant(asked: u32, limit: u32) -> Result<u32, Refusal> {
 }
 
 /// Writes the reply to a frame that was refused to the front of a buffer; empty where it gets none, and nothing is to be
-/// sent. [`MAX_REPLY`] bytes suffice. A version error has the frame's own version word, by which its sender finds the call;
+/// sent. [`MAX_REPLY`] bytes suffice. A version error has the frame's own version word, by which its sender matches it;
 /// [`Header::read`](crate::Header::read) gives 2 for it unless that word is 1.
 pub fn error_reply<'a>(
     frame: &[u8],

@@ -1,13 +1,13 @@
 -- An error reply in bytes, and what reading gives for one that was written.
 -- Assumes nothing.
 use mathlib.Core.Path.{_≡_, refl, sym, ap, _∙_, subst}
-use mathlib.Core.Bool.{Bool, true, false, cond}
+use mathlib.Core.Bool.{Bool, true, false, cond, _&&_}
 use mathlib.Core.List.{List, [], _∷_, _++_, append-nil}
 use mathlib.Core.Option.{some, Option·none-ne-some, Option·some-injective}
-use Prim.Native.Nat.{ℕ, _≤_, min, max}
+use Prim.Native.Nat.{ℕ, _≤_, _<_, min, max}
 use native.Mathlib.Nat.{min-le-right, max-le}
 use native.Mathlib.Omega.{arith}
-use borrow.Author.Tests.{le-leb, leb-true, ne-eqb}
+use borrow.Author.Tests.{le-leb, lt-leb, leb-true, eq-eqb, ne-eqb, eqb-true, eqb-false}
 use lib.Dec.{leb, eqb}
 use lib.ListN.{length, take, drop}
 use lib.Seq.{take-append-seam}
@@ -26,6 +26,8 @@ use Rattle.error_reply.specs.declared.ReplyKind.{ReplyKind}
 use Rattle.error_reply.specs.declared.ReplyKind.the-variants as reply
 use Rattle.wire.specs.Fits.{AllBytes, Word32, All}
 use Rattle.header.specs.Fits.{ErrorFits}
+use Rattle.answers.specs.Answers.{check, roomNumber}
+use Rattle.error_reply.specs.Internal.Length.{replyLength}
 use Rattle.error_reply.specs.Meant.{meant, writtenReply}
 use Rattle.header.proofs.Allowed.{Allowed}
 use Rattle.wire.proofs.WordBytes.{join-bytes, word-fits, word-front}
@@ -137,21 +139,109 @@ two-words : (frame : List ℕ) → AllBytes frame → 16 ≤ length frame → fr
 two-words frame b long =
     sym (ap (λ (t : List ℕ). wordBytes (wordAt frame 0) ++ t) (word-front frame 4 8 b refl (omega arith)) ∙ word-front frame 0 4 b refl (omega arith))
 
--- "In a version reply the second word becomes the frame's version word; low and high stay 1.": xid and version byte by byte as they came.
-pub version-reply : (frame out : List ℕ) (number limit : ℕ) → AllBytes frame → errorReplyNumber frame number limit (length out) ≡ 0 → replyKindFor frame number ≡ reply.Version →
-    writtenReply frame number limit out ≡ take 8 frame ++ wordBytes (granted (wordAt frame 8) limit) ++ (0 ∷ 0 ∷ 0 ∷ 4 ∷ 0 ∷ 0 ∷ 0 ∷ 1 ∷ 0 ∷ 0 ∷ 0 ∷ 1 ∷ 0 ∷ 0 ∷ 0 ∷ 1 ∷ [])
+-- "In a version reply the second word becomes the frame's version word; low and high stay 1.": xid and version byte by byte as they came, and what stands behind the reply is kept.
+version-bytes : (frame : List ℕ) (number limit : ℕ) → AllBytes frame → replyKindFor frame number ≡ reply.Version →
+    errorReply frame number limit ≡ take 8 frame ++ wordBytes (granted (wordAt frame 8) limit) ++ (0 ∷ 0 ∷ 0 ∷ 4 ∷ 0 ∷ 0 ∷ 0 ∷ 1 ∷ 0 ∷ 0 ∷ 0 ∷ 1 ∷ 0 ∷ 0 ∷ 0 ∷ 1 ∷ [])
 unfolding errorReply words joined wordBytes
-version-reply frame out number limit b zero version =
+version-bytes frame number limit b version =
     let first = ap (take 8) (two-words frame b (replied-long frame number _ (ap meant version))) in
-    rw (reply-written frame out number limit zero, version, first) refl
+    rw (version, first) refl
+
+version-size : (frame : List ℕ) (number limit : ℕ) → replyKindFor frame number ≡ reply.Version → length (errorReply frame number limit) ≡ 28
+unfolding errorReply words joined wordBytes
+version-size frame number limit version = rw version refl
+
+pub version-reply : (frame out : List ℕ) (number limit : ℕ) → AllBytes frame → errorReplyNumber frame number limit (length out) ≡ 0 → replyKindFor frame number ≡ reply.Version →
+    (errorReplyAnswer frame number limit (length out) ≡ record { number = 0; length = 28 })
+    × (errorReplyBuffer frame number limit out ≡ (take 8 frame ++ wordBytes (granted (wordAt frame 8) limit) ++ (0 ∷ 0 ∷ 0 ∷ 4 ∷ 0 ∷ 0 ∷ 0 ∷ 1 ∷ 0 ∷ 0 ∷ 0 ∷ 1 ∷ 0 ∷ 0 ∷ 0 ∷ 1 ∷ [])) ++ drop 28 out)
+unfolding errorReplyAnswer errorReplyBuffer
+version-reply frame out number limit b zero version =
+    rw (zero, version-size frame number limit version) (refl, ap (λ (t : List ℕ). t ++ drop 28 out) (version-bytes frame number limit b version))
 
 -- "A chunk reply keeps its second word 1, whatever the frame's."
-pub chunk-reply : (frame out : List ℕ) (number limit : ℕ) → AllBytes frame → errorReplyNumber frame number limit (length out) ≡ 0 → replyKindFor frame number ≡ reply.Chunk →
-    writtenReply frame number limit out ≡ take 4 frame ++ (0 ∷ 0 ∷ 0 ∷ 1 ∷ []) ++ wordBytes (granted (wordAt frame 8) limit) ++ (0 ∷ 0 ∷ 0 ∷ 4 ∷ 0 ∷ 0 ∷ 0 ∷ 2 ∷ [])
+chunk-bytes : (frame : List ℕ) (number limit : ℕ) → AllBytes frame → replyKindFor frame number ≡ reply.Chunk →
+    errorReply frame number limit ≡ take 4 frame ++ (0 ∷ 0 ∷ 0 ∷ 1 ∷ []) ++ wordBytes (granted (wordAt frame 8) limit) ++ (0 ∷ 0 ∷ 0 ∷ 4 ∷ 0 ∷ 0 ∷ 0 ∷ 2 ∷ [])
 unfolding errorReply words joined wordBytes
-chunk-reply frame out number limit b zero chunk =
+chunk-bytes frame number limit b chunk =
     let first = ap (take 4) (two-words frame b (replied-long frame number _ (ap meant chunk))) in
-    rw (reply-written frame out number limit zero, chunk, first) refl
+    rw (chunk, first) refl
+
+chunk-size : (frame : List ℕ) (number limit : ℕ) → replyKindFor frame number ≡ reply.Chunk → length (errorReply frame number limit) ≡ 20
+unfolding errorReply words joined wordBytes
+chunk-size frame number limit chunk = rw chunk refl
+
+pub chunk-reply : (frame out : List ℕ) (number limit : ℕ) → AllBytes frame → errorReplyNumber frame number limit (length out) ≡ 0 → replyKindFor frame number ≡ reply.Chunk →
+    (errorReplyAnswer frame number limit (length out) ≡ record { number = 0; length = 20 })
+    × (errorReplyBuffer frame number limit out ≡ (take 4 frame ++ (0 ∷ 0 ∷ 0 ∷ 1 ∷ []) ++ wordBytes (granted (wordAt frame 8) limit) ++ (0 ∷ 0 ∷ 0 ∷ 4 ∷ 0 ∷ 0 ∷ 0 ∷ 2 ∷ [])) ++ drop 20 out)
+unfolding errorReplyAnswer errorReplyBuffer
+chunk-reply frame out number limit b zero chunk =
+    rw (zero, chunk-size frame number limit chunk) (refl, ap (λ (t : List ℕ). t ++ drop 20 out) (chunk-bytes frame number limit b chunk))
+
+-- The second word of a reply.
+second : (xid version credit : ℕ) → Word32 version → wordAt (words (replyWords reply.Version xid version credit)) 4 ≡ version
+unfolding words joined wordBytes wordAt
+second xid version credit fits = join-bytes version fits
+
+version-second : (frame : List ℕ) (number limit : ℕ) → AllBytes frame → replyKindFor frame number ≡ reply.Version → wordAt (errorReply frame number limit) 4 ≡ wordAt frame 4
+unfolding errorReply
+version-second frame number limit b version = rw version (second (wordAt frame 0) (wordAt frame 4) (granted (wordAt frame 8) limit) (word-fits frame 4 b))
+
+chunk-second : (frame : List ℕ) (number limit : ℕ) → replyKindFor frame number ≡ reply.Chunk → wordAt (errorReply frame number limit) 4 ≡ 1
+unfolding errorReply words joined wordBytes wordAt
+chunk-second frame number limit chunk = rw chunk refl
+
+no-version : reply.Chunk ≡ reply.Version → ⊥
+unfolding replyLength
+no-version h = let q : _≡_ {A = ℕ} 20 28 = ap replyLength h in omega (arith, q)
+
+-- "Reading such a reply back gives 2 unless its second word is 1.", of both replies, by the reply's own word.
+pub read-exactly : (frame out : List ℕ) (number limit : ℕ) (e : ErrorKind) → AllBytes frame → Word32 limit → errorReplyNumber frame number limit (length out) ≡ 0 → meant (replyKindFor frame number) ≡ some e →
+    readNumber (readFrame (writtenReply frame number limit out)) ≡ cond (eqb (wordAt (writtenReply frame number limit out) 4) 1) 0 2
+read-exactly frame out number limit e b fits zero m =
+    by (replyKindFor frame number) refl (eqb (wordAt frame 4) 1) refl ∙ ap (λ (t : List ℕ). cond (eqb (wordAt t 4) 1) 0 2) (sym (reply-written frame out number limit zero))
+  where
+    by : (k : ReplyKind) → replyKindFor frame number ≡ k → (t : Bool) → eqb (wordAt frame 4) 1 ≡ t →
+        readNumber (readFrame (writtenReply frame number limit out)) ≡ cond (eqb (wordAt (errorReply frame number limit) 4) 1) 0 2
+    by reply.None k t q = absurd (Option·none-ne-some e (sym (ap meant k) ∙ m))
+    by reply.Version k true q = rw (version-second frame number limit b k, q) (ap readNumber (reply-read frame out number limit e b fits zero m (λ _. eqb-true (wordAt frame 4) 1 q)))
+    by reply.Version k false q = rw (version-second frame number limit b k, q) (ap readNumber (other-read frame out number limit b zero k (eqb-false (wordAt frame 4) 1 q)))
+    by reply.Chunk k t q = rw (chunk-second frame number limit k) (ap readNumber (reply-read frame out number limit e b fits zero m (λ v. absurd (no-version (sym k ∙ v)))))
+
+-- "Checks: 20": limit 0, or a number above 21, whatever the frame and the room.
+pub limit-zero : (frame out : List ℕ) (number : ℕ) →
+    (errorReplyAnswer frame number 0 (length out) ≡ record { number = 20; length = 0 }) × (errorReplyBuffer frame number 0 out ≡ out)
+unfolding errorReplyAnswer errorReplyBuffer errorReplyNumber
+limit-zero frame out number = (refl, refl)
+
+number-20 : (frame : List ℕ) (number limit room : ℕ) → 22 ≤ number → errorReplyNumber frame number limit room ≡ 20
+unfolding errorReplyNumber
+number-20 frame number limit room above = by (leb 1 limit)
+  where
+    by : (t : Bool) → check (t && leb number 21) 20 (roomNumber (errorReply frame number limit) room) ≡ 20
+    by true = simp (lt-leb number 21 above)
+    by false = refl
+
+pub above-21 : (frame out : List ℕ) (number limit : ℕ) → 22 ≤ number →
+    (errorReplyAnswer frame number limit (length out) ≡ record { number = 20; length = 0 }) × (errorReplyBuffer frame number limit out ≡ out)
+unfolding errorReplyAnswer errorReplyBuffer
+above-21 frame out number limit above = rw (number-20 frame number limit (length out) above) (refl, refl)
+
+-- "then no reply .. for a frame under 16 bytes or with procedure 4; then a small fixed table by number"
+pub reply-due : (frame : List ℕ) (number : ℕ) → 16 ≤ length frame → (wordAt frame 12 ≡ 4 → ⊥) → replyKindFor frame number ≡ replyKindOf number
+unfolding replyKindFor
+reply-due frame number long other = simp (le-leb 16 (length frame) long, ne-eqb (wordAt frame 12) 4 other)
+
+pub short-unanswered : (frame : List ℕ) (number : ℕ) → length frame < 16 → replyKindFor frame number ≡ reply.None
+unfolding replyKindFor
+short-unanswered frame number short = rw (lt-leb 16 (length frame) short) refl
+
+pub error-unanswered : (frame : List ℕ) (number : ℕ) → wordAt frame 12 ≡ 4 → replyKindFor frame number ≡ reply.None
+unfolding replyKindFor
+error-unanswered frame number four = rw (eq-eqb (wordAt frame 12) 4 four) (either (leb 16 (length frame)))
+  where
+    either : (t : Bool) → cond t reply.None reply.None ≡ reply.None
+    either true = refl
+    either false = refl
 
 -- "no reply (number 0, length 0, buffer unchanged)"
 pub no-reply : (frame out : List ℕ) (number limit : ℕ) → 1 ≤ limit → number ≤ 21 → replyKindFor frame number ≡ reply.None →

@@ -2,10 +2,11 @@
 -- Demand 1 is met by the contracts of the calls themselves, which ask nothing of a caller.
 -- Assumes nothing.
 use mathlib.Core.Path.{_≡_, refl}
-use mathlib.Core.Bool.{true, false, _&&_}
+use mathlib.Core.Bool.{true, false, cond, _&&_}
 use mathlib.Core.List.{List, [], _∷_, _++_, map}
 use mathlib.Core.Option.{some}
-use Prim.Native.Nat.{ℕ, _+_, _-_, _/_, _≤_}
+use Prim.Native.Nat.{ℕ, _+_, _-_, _/_, _≤_, _<_}
+use lib.Dec.{eqb}
 use lib.ListN.{length, getD, take, drop, replicate}
 use Rattle.wire.specs.Wire.{wordAt, joined, wordBytes}
 use Rattle.wire.specs.Fits.{AllBytes, AllWords, All, Word32}
@@ -28,7 +29,7 @@ use Rattle.setup.specs.Setup.{readSetup, writeSetupNumber, writeSetupAnswer, wr
 use Rattle.setup.specs.declared.Setup.{Setup}
 use Rattle.setup.proofs.RoundTrip as setup-trip
 use Rattle.credit.specs.Credit.{granted}
-use Rattle.error_reply.specs.Reply.{replyKindFor, errorReply, errorReplyNumber}
+use Rattle.error_reply.specs.Reply.{replyKindOf, replyKindFor, errorReply, errorReplyNumber, errorReplyAnswer, errorReplyBuffer}
 use Rattle.error_reply.specs.Meant.{meant, writtenReply}
 use Rattle.error_reply.specs.declared.ReplyKind.the-variants as reply
 use Rattle.error_reply.proofs.ReplyRead as reply-read
@@ -151,6 +152,27 @@ exports-message = exports.exports-finished
 pub exports-demand-3 : (frame out before : List ℕ) (size : ℕ) (c : Content) (inline : List ℕ) → AllBytes frame → readFrame frame ≡ done c inline → startNumber (readFrame frame) (length out) ≡ 0 →
     (cut : List ReadSegment) → CutOf (c .reads) cut → Unchanged (λ f. exportThen f out before size) frame out c inline cut
 exports-demand-3 = exports.exports-unchanged
+
+-- The error reply. "Checks: 20": limit 0, or a number above 21, whatever the frame and the room.
+pub reply-limit-zero : (frame out : List ℕ) (number : ℕ) →
+    (errorReplyAnswer frame number 0 (length out) ≡ record { number = 20; length = 0 }) × (errorReplyBuffer frame number 0 out ≡ out)
+reply-limit-zero = reply-read.limit-zero
+
+pub reply-above-21 : (frame out : List ℕ) (number limit : ℕ) → 22 ≤ number →
+    (errorReplyAnswer frame number limit (length out) ≡ record { number = 20; length = 0 }) × (errorReplyBuffer frame number limit out ≡ out)
+reply-above-21 = reply-read.above-21
+
+-- "then no reply (number 0, length 0, buffer unchanged) for a frame under 16 bytes or with procedure 4; then a small fixed table by number".
+pub reply-to-none : (frame : List ℕ) (number : ℕ) →
+    (length frame < 16 → replyKindFor frame number ≡ reply.None) × (wordAt frame 12 ≡ 4 → replyKindFor frame number ≡ reply.None)
+reply-to-none frame number = (reply-read.short-unanswered frame number, reply-read.error-unanswered frame number)
+
+pub reply-due : (frame : List ℕ) (number : ℕ) → 16 ≤ length frame → (wordAt frame 12 ≡ 4 → ⊥) → replyKindFor frame number ≡ replyKindOf number
+reply-due = reply-read.reply-due
+
+pub reply-none : (frame out : List ℕ) (number limit : ℕ) → 1 ≤ limit → number ≤ 21 → replyKindFor frame number ≡ reply.None →
+    (errorReplyAnswer frame number limit (length out) ≡ record { number = 0; length = 0 }) × (errorReplyBuffer frame number limit out ≡ out)
+reply-none = reply-read.no-reply
 
 -- A chunk reply that was written reads back as the ERROR header that it is meant to be, and so does a version reply to a frame of version 1 (to any other frame: order 4, below). No reply is itself answered.
 pub reply-reads-back : (frame out : List ℕ) (number limit : ℕ) (e : ErrorKind) → AllBytes frame → Word32 limit → errorReplyNumber frame number limit (length out) ≡ 0 → meant (replyKindFor frame number) ≡ some e → (replyKindFor frame number ≡ reply.Version → wordAt frame 4 ≡ 1) →
@@ -337,17 +359,24 @@ order-3-at-once = in-order.taken-at-once
 pub order-3-cases : All Holds orderCases
 order-3-cases = worked.in-any-order
 
--- Order 4: "In a version reply the second word becomes the frame's version word; low and high stay 1.": xid and version are the frame's first eight bytes.
+-- Order 4: "In a version reply the second word becomes the frame's version word; low and high stay 1.": the reply begins with the frame's first eight bytes.
 pub order-4-version-reply : (frame out : List ℕ) (number limit : ℕ) → AllBytes frame → errorReplyNumber frame number limit (length out) ≡ 0 → replyKindFor frame number ≡ reply.Version →
-    writtenReply frame number limit out ≡ take 8 frame ++ wordBytes (granted (wordAt frame 8) limit) ++ (0 ∷ 0 ∷ 0 ∷ 4 ∷ 0 ∷ 0 ∷ 0 ∷ 1 ∷ 0 ∷ 0 ∷ 0 ∷ 1 ∷ 0 ∷ 0 ∷ 0 ∷ 1 ∷ [])
+    (errorReplyAnswer frame number limit (length out) ≡ record { number = 0; length = 28 })
+    × (errorReplyBuffer frame number limit out ≡ (take 8 frame ++ wordBytes (granted (wordAt frame 8) limit) ++ (0 ∷ 0 ∷ 0 ∷ 4 ∷ 0 ∷ 0 ∷ 0 ∷ 1 ∷ 0 ∷ 0 ∷ 0 ∷ 1 ∷ 0 ∷ 0 ∷ 0 ∷ 1 ∷ [])) ++ drop 28 out)
 order-4-version-reply = reply-read.version-reply
 
 -- "A chunk reply keeps its second word 1, whatever the frame's."
 pub order-4-chunk-reply : (frame out : List ℕ) (number limit : ℕ) → AllBytes frame → errorReplyNumber frame number limit (length out) ≡ 0 → replyKindFor frame number ≡ reply.Chunk →
-    writtenReply frame number limit out ≡ take 4 frame ++ (0 ∷ 0 ∷ 0 ∷ 1 ∷ []) ++ wordBytes (granted (wordAt frame 8) limit) ++ (0 ∷ 0 ∷ 0 ∷ 4 ∷ 0 ∷ 0 ∷ 0 ∷ 2 ∷ [])
+    (errorReplyAnswer frame number limit (length out) ≡ record { number = 0; length = 20 })
+    × (errorReplyBuffer frame number limit out ≡ (take 4 frame ++ (0 ∷ 0 ∷ 0 ∷ 1 ∷ []) ++ wordBytes (granted (wordAt frame 8) limit) ++ (0 ∷ 0 ∷ 0 ∷ 4 ∷ 0 ∷ 0 ∷ 0 ∷ 2 ∷ [])) ++ drop 20 out)
 order-4-chunk-reply = reply-read.chunk-reply
 
--- "Reading such a reply back gives 2 unless its second word is 1." (If it is 1: `reply-reads-back`.)
+-- "Reading such a reply back gives 2 unless its second word is 1.": of every reply that was written, by its own second word.
+pub order-4-read-exactly : (frame out : List ℕ) (number limit : ℕ) (e : ErrorKind) → AllBytes frame → Word32 limit → errorReplyNumber frame number limit (length out) ≡ 0 → meant (replyKindFor frame number) ≡ some e →
+    readNumber (readFrame (writtenReply frame number limit out)) ≡ cond (eqb (wordAt (writtenReply frame number limit out) 4) 1) 0 2
+order-4-read-exactly = reply-read.read-exactly
+
+-- What else reading gives: where the word is 1 `reply-reads-back` says it, and where it is not the all-zero header and no payload; for C the caller's header as it was.
 pub order-4-other-version : (frame out : List ℕ) (number limit : ℕ) → AllBytes frame → errorReplyNumber frame number limit (length out) ≡ 0 → replyKindFor frame number ≡ reply.Version → (wordAt frame 4 ≡ 1 → ⊥) →
     (readAnswer (readFrame (writtenReply frame number limit out)) ≡ record { header = headerOf nothing; number = 2 })
     × (payloadOf (readFrame (writtenReply frame number limit out)) ≡ [])

@@ -585,7 +585,7 @@ fixedAlone = 1 ∷ 2 ∷ 3 ∷ 4 ∷ 5 ∷ 6 ∷ 7 ∷ 8 ∷ 0 ∷ 0 ∷ 0 ∷ 9
 abbrev pub namedError : ErrorKind → ReadAnswer
 namedError e = record { header = headerOf (record { kind = Error e; xid = 0x2a; credit = 0x20; reads = []; writes = []; reply = none }); number = 0 }
 
--- What order 4 says: versions echoed, byte by byte; 2 with a frame of version 1; chunk replies to frames of another version; frames that get no reply; then what reading a reply gives; and a reply that is answered with none.
+-- What order 4 says: versions echoed, byte by byte; 2 with a frame of version 1; chunk replies to frames of another version; frames that get no reply; then what reading a reply gives, and a reply that gets none itself; then each procedure but 4, grants at both ends, 21 as an argument; and 20 before all else, 16 after it.
 abbrev pub echoCases : List Example
 echoCases =
     replied c2 2 32 (words (0x2a ∷ 1 ∷ 0x20 ∷ 4 ∷ 1 ∷ 1 ∷ 1 ∷ []))
@@ -607,4 +607,17 @@ echoCases =
     ∷ reply-reads c2 5 32 (namedError error.Chunk)
     ∷ frame-reads (words (0x2a ∷ 2 ∷ 0x20 ∷ 4 ∷ 1 ∷ 1 ∷ 1 ∷ [])) 2 []
     ∷ replied (words (0x2a ∷ 2 ∷ 0x20 ∷ 4 ∷ 1 ∷ 1 ∷ 1 ∷ [])) 2 32 []
+    ∷ replied (words (0x2a ∷ 1 ∷ 0x20 ∷ 5 ∷ [])) 3 32 (words (0x2a ∷ 1 ∷ 0x20 ∷ 4 ∷ 2 ∷ []))
+    ∷ replied (words (0x2a ∷ 2 ∷ 0x20 ∷ 1 ∷ [])) 2 32 (words (0x2a ∷ 2 ∷ 0x20 ∷ 4 ∷ 1 ∷ 1 ∷ 1 ∷ []))
+    ∷ replied (words (0x2a ∷ 2 ∷ 0x20 ∷ 3 ∷ [])) 2 32 (words (0x2a ∷ 2 ∷ 0x20 ∷ 4 ∷ 1 ∷ 1 ∷ 1 ∷ []))
+    ∷ replied (words (0x2a ∷ 2 ∷ 0x20 ∷ 0x104 ∷ [])) 2 32 (words (0x2a ∷ 2 ∷ 0x20 ∷ 4 ∷ 1 ∷ 1 ∷ 1 ∷ []))
+    ∷ replied (words (0x2a ∷ 2 ∷ 0 ∷ 0 ∷ [])) 2 32 (words (0x2a ∷ 2 ∷ 1 ∷ 4 ∷ 1 ∷ 1 ∷ 1 ∷ []))
+    ∷ replied (words (0x2a ∷ 2 ∷ 100 ∷ 0 ∷ [])) 5 40 (words (0x2a ∷ 1 ∷ 40 ∷ 4 ∷ 2 ∷ []))
+    ∷ replied c3 2 1 (words (0x2a ∷ 2 ∷ 1 ∷ 4 ∷ 1 ∷ 1 ∷ 1 ∷ []))
+    ∷ replied c3 21 32 []
+    ∷ reply-gives c3 4 0 28 20
+    ∷ reply-gives (take 15 c3) 2 0 28 20
+    ∷ reply-gives (take 15 c3) 22 32 28 20
+    ∷ reply-gives (words (0x2a ∷ 2 ∷ 0x20 ∷ 4 ∷ [])) 22 32 28 20
+    ∷ reply-gives c3 5 32 19 16
     ∷ []
