@@ -32,6 +32,7 @@ use Rattle.error_reply.specs.Meant.{meant, writtenReply}
 use Rattle.header.proofs.Allowed.{Allowed}
 use Rattle.wire.proofs.WordBytes.{join-bytes, word-fits, word-front}
 use Rattle.reader.proofs.ReadBack.{header-back}
+use Rattle.error_reply.proofs.ReplyWritten.{reply-length}
 
 -- The words of a reply are the bytes of the header that it is meant to be, if a version reply's second word is 1.
 reply-bytes : (kind : ReplyKind) (e : ErrorKind) (xid version credit : ℕ) → meant kind ≡ some e → (kind ≡ reply.Version → version ≡ 1) →
@@ -139,7 +140,20 @@ two-words : (frame : List ℕ) → AllBytes frame → 16 ≤ length frame → fr
 two-words frame b long =
     sym (ap (λ (t : List ℕ). wordBytes (wordAt frame 0) ++ t) (word-front frame 4 8 b refl (omega arith)) ∙ word-front frame 0 4 b refl (omega arith))
 
--- "In a version reply the second word becomes the frame's version word; low and high stay 1.": xid and version byte by byte as they came, and what stands behind the reply is kept.
+error-length : (frame : List ℕ) (number limit : ℕ) → length (errorReply frame number limit) ≡ replyLength (replyKindFor frame number)
+unfolding errorReply
+error-length frame number limit = reply-length (replyKindFor frame number) (wordAt frame 0) (wordAt frame 4) (granted (wordAt frame 8) limit)
+
+-- A reply of a kind, at the front of a buffer: its length, and what stands behind it is kept.
+whole-reply : (frame out bytes : List ℕ) (number limit : ℕ) (kind : ReplyKind) → errorReplyNumber frame number limit (length out) ≡ 0 → replyKindFor frame number ≡ kind → errorReply frame number limit ≡ bytes →
+    (errorReplyAnswer frame number limit (length out) ≡ record { number = 0; length = replyLength kind })
+    × (errorReplyBuffer frame number limit out ≡ bytes ++ drop (replyLength kind) out)
+unfolding errorReplyAnswer errorReplyBuffer
+whole-reply frame out bytes number limit kind zero k e =
+    let size : length (errorReply frame number limit) ≡ replyLength kind = error-length frame number limit ∙ ap replyLength k in
+    rw (zero, size) (refl, ap (λ (t : List ℕ). t ++ drop (replyLength kind) out) e)
+
+-- "In a version reply the second word becomes the frame's version word; low and high stay 1.": xid and version byte by byte as they came.
 version-bytes : (frame : List ℕ) (number limit : ℕ) → AllBytes frame → replyKindFor frame number ≡ reply.Version →
     errorReply frame number limit ≡ take 8 frame ++ wordBytes (granted (wordAt frame 8) limit) ++ (0 ∷ 0 ∷ 0 ∷ 4 ∷ 0 ∷ 0 ∷ 0 ∷ 1 ∷ 0 ∷ 0 ∷ 0 ∷ 1 ∷ 0 ∷ 0 ∷ 0 ∷ 1 ∷ [])
 unfolding errorReply words joined wordBytes
@@ -147,16 +161,11 @@ version-bytes frame number limit b version =
     let first = ap (take 8) (two-words frame b (replied-long frame number _ (ap meant version))) in
     rw (version, first) refl
 
-version-size : (frame : List ℕ) (number limit : ℕ) → replyKindFor frame number ≡ reply.Version → length (errorReply frame number limit) ≡ 28
-unfolding errorReply words joined wordBytes
-version-size frame number limit version = rw version refl
-
 pub version-reply : (frame out : List ℕ) (number limit : ℕ) → AllBytes frame → errorReplyNumber frame number limit (length out) ≡ 0 → replyKindFor frame number ≡ reply.Version →
     (errorReplyAnswer frame number limit (length out) ≡ record { number = 0; length = 28 })
     × (errorReplyBuffer frame number limit out ≡ (take 8 frame ++ wordBytes (granted (wordAt frame 8) limit) ++ (0 ∷ 0 ∷ 0 ∷ 4 ∷ 0 ∷ 0 ∷ 0 ∷ 1 ∷ 0 ∷ 0 ∷ 0 ∷ 1 ∷ 0 ∷ 0 ∷ 0 ∷ 1 ∷ [])) ++ drop 28 out)
-unfolding errorReplyAnswer errorReplyBuffer
-version-reply frame out number limit b zero version =
-    rw (zero, version-size frame number limit version) (refl, ap (λ (t : List ℕ). t ++ drop 28 out) (version-bytes frame number limit b version))
+unfolding replyLength
+version-reply frame out number limit b zero version = whole-reply frame out _ number limit _ zero version (version-bytes frame number limit b version)
 
 -- "A chunk reply keeps its second word 1, whatever the frame's."
 chunk-bytes : (frame : List ℕ) (number limit : ℕ) → AllBytes frame → replyKindFor frame number ≡ reply.Chunk →
@@ -166,16 +175,11 @@ chunk-bytes frame number limit b chunk =
     let first = ap (take 4) (two-words frame b (replied-long frame number _ (ap meant chunk))) in
     rw (chunk, first) refl
 
-chunk-size : (frame : List ℕ) (number limit : ℕ) → replyKindFor frame number ≡ reply.Chunk → length (errorReply frame number limit) ≡ 20
-unfolding errorReply words joined wordBytes
-chunk-size frame number limit chunk = rw chunk refl
-
 pub chunk-reply : (frame out : List ℕ) (number limit : ℕ) → AllBytes frame → errorReplyNumber frame number limit (length out) ≡ 0 → replyKindFor frame number ≡ reply.Chunk →
     (errorReplyAnswer frame number limit (length out) ≡ record { number = 0; length = 20 })
     × (errorReplyBuffer frame number limit out ≡ (take 4 frame ++ (0 ∷ 0 ∷ 0 ∷ 1 ∷ []) ++ wordBytes (granted (wordAt frame 8) limit) ++ (0 ∷ 0 ∷ 0 ∷ 4 ∷ 0 ∷ 0 ∷ 0 ∷ 2 ∷ [])) ++ drop 20 out)
-unfolding errorReplyAnswer errorReplyBuffer
-chunk-reply frame out number limit b zero chunk =
-    rw (zero, chunk-size frame number limit chunk) (refl, ap (λ (t : List ℕ). t ++ drop 20 out) (chunk-bytes frame number limit b chunk))
+unfolding replyLength
+chunk-reply frame out number limit b zero chunk = whole-reply frame out _ number limit _ zero chunk (chunk-bytes frame number limit b chunk)
 
 -- The second word of a reply.
 second : (xid version credit : ℕ) → Word32 version → wordAt (words (replyWords reply.Version xid version credit)) 4 ≡ version
