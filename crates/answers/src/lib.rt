@@ -45,6 +45,12 @@ pub const BYTES_MISSING: u32 = 19;
 pub const BAD_ARGUMENT: u32 = 20;
 // "a header to be written is longer than 1,024 bytes"
 pub const HEADER_LONG: u32 = 21;
+// Of order 5: "it is refused with 23 exactly if the calls in flight reach or pass the grant or 32"
+pub const CREDIT_SPENT: u32 = 23;
+// Of order 5: "24 if the xid is not in flight"
+pub const XID_UNKNOWN: u32 = 24;
+// Of order 5: "25 if the grant is 0"
+pub const GRANT_ZERO: u32 = 25;
 // Of order 1: a reply that cannot answer the header that was sent; `returned` has the conditions, each under its words.
 pub const REPLY_MISMATCH: u32 = 26;
 

@@ -1,0 +1,4 @@
+pub mod Xids
+pub mod Scans
+pub mod Searching
+pub mod Steps

@@ -1,0 +1,88 @@
+-- The ledger of credits (document 02, order 5).
+use Prim.Native.Nat.{ℕ, zero, suc, _+_, _-_, _%_}
+use mathlib.Core.Bool.{Bool, true, false, cond, not, _||_}
+use mathlib.Core.List.{List, [], _∷_, _++_}
+use lib.ListN.{length, take, replicate}
+use lib.Dec.{eqb, ltb, leb}
+use Rattle.answers.specs.Answers.{check, unlessRefused}
+use Rattle.ledger.specs.declared.Ledger.{Ledger}
+use Rattle.ledger.specs.declared.OpenAnswer.{OpenAnswer}
+use Rattle.ledger.specs.declared.SendAnswer.{SendAnswer}
+
+-- "Room for 32 calls in flight"
+abbrev pub maxInFlight : ℕ
+maxInFlight = 32
+
+-- "Xids stand in sending order .. places behind them are ignored"
+abbrev pub inFlight : Ledger → List ℕ
+inFlight l = take (l .count) (l .xids)
+
+-- "places behind them are .. zero after an accepted operation"
+abbrev pub padded : List ℕ → List ℕ
+padded xs = xs ++ replicate (maxInFlight - length xs) 0
+
+-- The ledger with these calls in flight, in sending order.
+abbrev pub ledgerOf : List ℕ → ℕ → ℕ → Ledger
+ledgerOf xs grant last = record { xids = padded xs; count = length xs; grant = grant; last = last }
+
+-- "the grant starts at 1, and the opener names the last xid"; opening is never refused.
+unfoldable pub openAnswer : ℕ → OpenAnswer
+openAnswer last = record { ledger = ledgerOf [] 1 last; number = 0 }
+
+-- Whether an xid is in a list.
+unfoldable pub isIn : ℕ → List ℕ → Bool
+isIn x [] = false
+isIn x (y ∷ ys) = eqb x y || isIn x ys
+
+-- "one xid twice"
+unfoldable pub anyTwice : List ℕ → Bool
+anyTwice [] = false
+anyTwice (x ∷ xs) = isIn x xs || anyTwice xs
+
+-- "A ledger with more in flight, one xid twice or grant 0 gets 17 first."
+unfoldable pub unfit : Ledger → Bool
+unfit l = ltb maxInFlight (l .count) || (anyTwice (inFlight l) || eqb (l .grant) 0)
+
+-- "one more than the last, wrapping to 0 behind the largest"
+abbrev pub xidAfter : ℕ → ℕ
+xidAfter x = (x + 1) % 4294967296
+
+-- "passing over xids still in flight": from x on, the first xid that is not in the list, if at most n are passed over.
+unfoldable pub firstFree : ℕ → ℕ → List ℕ → ℕ
+firstFree zero x xs = x
+firstFree (suc n) x xs = cond (isIn x xs) (firstFree n (xidAfter x) xs) x
+
+-- "Sending takes the next xid, one more than the last, .. passing over xids still in flight"; no more are passed over than are in flight.
+unfoldable pub nextXid : Ledger → ℕ
+nextXid l = firstFree (l .count) (xidAfter (l .last)) (inFlight l)
+
+-- "if the calls in flight reach or pass the grant or 32"
+unfoldable pub spent : Ledger → Bool
+spent l = leb (l .grant) (l .count) || leb maxInFlight (l .count)
+
+-- "it is refused with 23 exactly if the calls in flight reach or pass the grant or 32"
+unfoldable pub sendNumber : Ledger → ℕ
+sendNumber l = check (not (unfit l)) 17 (check (not (spent l)) 23 0)
+
+-- "A refused call returns its number .. and for all else zeros"
+unfoldable pub sendAnswer : Ledger → SendAnswer
+sendAnswer l = record { number = sendNumber l; xid = unlessRefused (sendNumber l) (nextXid l) 0 }
+
+-- "Sending takes the next xid"; "Xids stand in sending order"; "A refusal changes nothing."
+unfoldable pub sendLedger : Ledger → Ledger
+sendLedger l = unlessRefused (sendNumber l) (ledgerOf (inFlight l ++ nextXid l ∷ []) (l .grant) (nextXid l)) l
+
+-- "A reply names an xid and a grant: 25 if the grant is 0, then 24 if the xid is not in flight"
+unfoldable pub replyNumber : Ledger → ℕ → ℕ → ℕ
+replyNumber l xid grant =
+    check (not (unfit l)) 17 (check (not (eqb grant 0)) 25 (check (isIn xid (inFlight l)) 24 0))
+
+-- "a leaving one closes its gap"
+unfoldable pub without : ℕ → List ℕ → List ℕ
+without x [] = []
+without x (y ∷ ys) = cond (eqb x y) ys (y ∷ without x ys)
+
+-- "else the call leaves and the grant is set, above 32 too. A lower grant takes no call back. A refusal changes nothing."
+unfoldable pub replyLedger : Ledger → ℕ → ℕ → Ledger
+replyLedger l xid grant =
+    unlessRefused (replyNumber l xid grant) (ledgerOf (without xid (inFlight l)) grant (l .last)) l
