@@ -10,7 +10,7 @@ use lib.ListN.{length, take, drop, length-append, length-drop}
 use lib.Seq.{length-take-le}
 use lib.Dec.{eqb, ltb, leb}
 use borrow.Author.Tests.{eq-eqb, ne-eqb, eqb-false, le-leb, lt-leb, le-ltb, lt-ltb, ltb-false}
-use Rattle.answers.proofs.Checks.{neither}
+use Rattle.answers.proofs.Checks.{neither, kept}
 use Rattle.ledger.specs.Ledger.{maxInFlight, inFlight, padded, isIn, anyTwice, unfit, xidAfter, firstFree, nextXid, spent, sendNumber, sendAnswer, sendLedger, replyNumber, without, replyLedger}
 use Rattle.ledger.specs.Internal.Search.{placeOf}
 use Rattle.ledger.specs.declared.Ledger.{Ledger}
@@ -67,6 +67,11 @@ module _ (l : Ledger) where
   abbrev sent-step : SendStep
   sent-step = record { ledger = sendLedger l; answer = sendAnswer l }
 
+  -- "A refusal changes nothing."
+  pub send-kept : (sendNumber l ≡ 0 → ⊥) → l ≡ sendLedger l
+  unfolding sendLedger
+  send-kept d = sym (kept (sendNumber l) _ l d)
+
   pub sent-unfit : unfit l ≡ true → record { ledger = l; answer = record { number = 17; xid = 0 } } ≡ sent-step
   unfolding sendLedger sendAnswer sendNumber
   sent-unfit e = rw e
@@ -85,6 +90,11 @@ module _ (l : Ledger) where
 module _ (l : Ledger) (xid grant : ℕ) where
   abbrev replied-step : ReplyStep
   replied-step = record { ledger = replyLedger l xid grant; number = replyNumber l xid grant }
+
+  -- "A refusal changes nothing."
+  pub reply-kept : (replyNumber l xid grant ≡ 0 → ⊥) → l ≡ replyLedger l xid grant
+  unfolding replyLedger
+  reply-kept d = sym (kept (replyNumber l xid grant) _ l d)
 
   pub replied-unfit : unfit l ≡ true → record { ledger = l; number = 17 } ≡ replied-step
   unfolding replyLedger replyNumber

@@ -211,8 +211,12 @@ pub fn send(ledger: &mut Ledger) -> SendAnswer
 {
     let before = *ledger;
     let done = sent(before);
+    let answer = done.answer;
+    if answer.number != 0 {
+        return answer;
+    }
     *ledger = done.ledger;
-    done.answer
+    answer
 }
 
 fn not_replied(ledger: Ledger, number: u32) -> ReplyStep
@@ -256,6 +260,10 @@ pub fn reply(ledger: &mut Ledger, xid: u32, grant: u32) -> u32
 {
     let before = *ledger;
     let done = replied(before, xid, grant);
+    let number = done.number;
+    if number != 0 {
+        return number;
+    }
     *ledger = done.ledger;
-    done.number
+    number
 }
