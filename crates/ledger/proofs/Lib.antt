@@ -2,3 +2,4 @@ pub mod Xids
 pub mod Scans
 pub mod Searching
 pub mod Steps
+pub mod History
