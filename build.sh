@@ -3,7 +3,7 @@
 set -euo pipefail
 top=$(CDPATH='' cd -- "$(dirname -- "${BASH_SOURCE[0]}")" && pwd)
 folder=${1:-$top/target/install}
-exports=(c_header c_setup c_reply c_assembly c_returned)
+exports=(c_header c_setup c_reply c_assembly c_returned c_ledger)
 
 # Each crate of exports is one object; the archive holds them all.
 objects=$(mktemp -d)
