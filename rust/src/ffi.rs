@@ -99,6 +99,29 @@ pub struct Landed {
     pub reply: u64,
 }
 
+/// The calls in flight of one connection, the grant and the last xid given.
+#[repr(C)]
+#[derive(Clone, Copy, Debug, Default, PartialEq, Eq)]
+pub struct Ledger {
+    /// Of the calls in flight, in sending order; places behind them are ignored, and zero after an accepted operation.
+    pub xids: [u32; 32],
+    /// How many calls are in flight.
+    pub count: u32,
+    pub grant: u32,
+    /// The last xid given.
+    pub last: u32,
+}
+
+/// What a send is answered with.
+#[repr(C)]
+#[derive(Clone, Copy, Debug, Default, PartialEq, Eq)]
+pub struct SendAnswer {
+    /// 0 if the call may be sent.
+    pub number: u32,
+    /// The call's xid; 0 where it may not be sent.
+    pub xid: u32,
+}
+
 // As many bytes as the fields have together: no holes.
 const _: () = assert!(size_of::<Segment>() == 16 && size_of::<ReadSegment>() == 24);
 const _: () = assert!(size_of::<Header>() == 16 * (24 + 16 + 16) + 14 * 4);
@@ -107,6 +130,8 @@ const _: () = assert!(size_of::<Setup>() == 3 * 4 && size_of::<Agreement>() == 3
 const _: () = assert!(size_of::<State>() == 16 * 24 + 3 * 8 + 2 * 4);
 const _: () = assert!(size_of::<PieceAnswer>() == 2 * 4 && core::mem::offset_of!(PieceAnswer, goes) == 4);
 const _: () = assert!(size_of::<Landed>() == 5 * 8);
+const _: () = assert!(size_of::<Ledger>() == 35 * 4);
+const _: () = assert!(size_of::<SendAnswer>() == 2 * 4 && core::mem::offset_of!(SendAnswer, xid) == 4);
 
 extern "C" {
     pub fn eos_read_header(frame: *const u8, frame_len: usize, header: *mut Header) -> u32;
@@ -141,4 +166,7 @@ extern "C" {
     ) -> PieceAnswer;
     pub fn eos_message(state: *const State, out: *const u8, out_len: usize, length: *mut usize) -> u32;
     pub fn eos_returned(sent: *const Header, reply: *const Header, landed: *mut Landed) -> u32;
+    pub fn eos_ledger_open(last: u32, ledger: *mut Ledger) -> u32;
+    pub fn eos_ledger_send(ledger: *mut Ledger) -> SendAnswer;
+    pub fn eos_ledger_reply(ledger: *mut Ledger, xid: u32, grant: u32) -> u32;
 }

@@ -1,5 +1,5 @@
 //! What an implementation under comparison has: the calls of include/eoswynnor.h. Each answers its
-//! number, for a piece with the goes beside it, and stores what it makes.
+//! number, for a piece with the goes beside it, for a send with the xid, and stores what it makes.
 //!
 //! All is lent for writing, also what a call may only read: an implementation that changes it can
 //! then be written, and the comparison afterwards is one that the compiler may not leave out.
@@ -42,6 +42,13 @@ pub trait ReturnedCalls {
     fn returned_itself(&self, both: &mut ffi::Header, landed: &mut ffi::Landed) -> u32;
 }
 
-pub trait Calls: HeaderCalls + SetupCalls + ReplyCalls + AssemblyCalls + ReturnedCalls {}
+pub trait LedgerCalls {
+    /// Always 0.
+    fn ledger_open(&self, last: u32, ledger: &mut ffi::Ledger) -> u32;
+    fn ledger_send(&self, ledger: &mut ffi::Ledger) -> ffi::SendAnswer;
+    fn ledger_reply(&self, ledger: &mut ffi::Ledger, xid: u32, grant: u32) -> u32;
+}
 
-impl<T: HeaderCalls + SetupCalls + ReplyCalls + AssemblyCalls + ReturnedCalls> Calls for T {}
+pub trait Calls: HeaderCalls + SetupCalls + ReplyCalls + AssemblyCalls + ReturnedCalls + LedgerCalls {}
+
+impl<T: HeaderCalls + SetupCalls + ReplyCalls + AssemblyCalls + ReturnedCalls + LedgerCalls> Calls for T {}

@@ -3,6 +3,7 @@
 pub mod assembly;
 pub mod goes;
 pub mod header;
+pub mod ledger;
 pub mod order;
 pub mod reply;
 pub mod returned;
@@ -65,5 +66,6 @@ pub fn run<C: Calls>(check: &mut Checker<C>, seed: u64, cases: u64) -> Outcome {
     assembly::run(check, rng, cases)?;
     goes::run(check, rng, cases)?;
     order::run(check, rng, cases)?;
-    returned::run(check, rng, cases)
+    returned::run(check, rng, cases)?;
+    ledger::run(check, rng, cases)
 }

@@ -2,6 +2,7 @@
 
 mod assembly;
 mod header;
+mod ledger;
 mod lent;
 mod reply;
 mod returned;
@@ -10,6 +11,7 @@ mod setup;
 mod watched;
 
 pub use assembly::Step;
+pub use ledger::{Operation, Start};
 
 use crate::calls::Calls;
 use crate::rng::Rng;

@@ -2,6 +2,7 @@
 
 use crate::reference::assembly::State;
 use crate::reference::header::{self, Fault, Header, Kind, ReadSegment, Reply, Segment};
+use crate::reference::ledger::{self, Ledger};
 use crate::reference::returned::Landed;
 use crate::reference::setup::{Agreement, Setup};
 use crate::words::Words;
@@ -151,4 +152,19 @@ pub fn flatten_landed(landed: &Landed) -> ffi::Landed {
     let mut flat = ffi::Landed { reply: landed.reply, ..ffi::Landed::ZERO };
     place(&mut flat.writes, &landed.writes);
     flat
+}
+
+/// A ledger with room for its calls, the places behind them zero.
+pub fn flatten_ledger(ledger: &Ledger) -> ffi::Ledger {
+    let &Ledger { grant, last, .. } = ledger;
+    let count = ledger.in_flight.len() as u32;
+    let mut flat = ffi::Ledger { count, grant, last, ..ffi::Ledger::ZERO };
+    place(&mut flat.xids, &ledger.in_flight);
+    flat
+}
+
+/// The places behind the calls in flight are ignored.
+pub fn unflatten_ledger(flat: &ffi::Ledger) -> Ledger {
+    let &ffi::Ledger { count, grant, last, .. } = flat;
+    Ledger { in_flight: cut(flat.xids.iter().copied(), count, ledger::ROOM), grant, last }
 }

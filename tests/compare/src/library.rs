@@ -1,6 +1,6 @@
 //! The calls of the compiled library. Each is lent exactly what it is given.
 
-use crate::calls::{AssemblyCalls, HeaderCalls, ReplyCalls, ReturnedCalls, SetupCalls};
+use crate::calls::{AssemblyCalls, HeaderCalls, LedgerCalls, ReplyCalls, ReturnedCalls, SetupCalls};
 use eoswynnor::ffi;
 
 pub struct Library;
@@ -86,5 +86,22 @@ impl ReturnedCalls for Library {
     fn returned_itself(&self, both: &mut ffi::Header, landed: &mut ffi::Landed) -> u32 {
         let both = &raw mut *both;
         unsafe { ffi::eos_returned(both, both, landed) }
+    }
+}
+
+impl LedgerCalls for Library {
+    #[inline(always)]
+    fn ledger_open(&self, last: u32, ledger: &mut ffi::Ledger) -> u32 {
+        unsafe { ffi::eos_ledger_open(last, ledger) }
+    }
+
+    #[inline(always)]
+    fn ledger_send(&self, ledger: &mut ffi::Ledger) -> ffi::SendAnswer {
+        unsafe { ffi::eos_ledger_send(ledger) }
+    }
+
+    #[inline(always)]
+    fn ledger_reply(&self, ledger: &mut ffi::Ledger, xid: u32, grant: u32) -> u32 {
+        unsafe { ffi::eos_ledger_reply(ledger, xid, grant) }
     }
 }

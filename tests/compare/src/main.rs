@@ -1,5 +1,5 @@
 //! Compares the static library's calls (headers, setup data, agreement, grant, error reply,
-//! reassembly, what a reply says was landed) with a second implementation.
+//! reassembly, what a reply says was landed, ledger) with a second implementation.
 //! Build with EOS_LIB_DIR naming the folder of libeoswynnor.a; options: --cases N (cases in each
 //! random family), --seed S, --vectors FILE (else what EOS_VECTORS names).
 //! One line for each family, then the numbers, goes and forms seen and the total; the first

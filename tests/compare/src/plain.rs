@@ -3,6 +3,7 @@
 
 mod assembly;
 mod header;
+pub mod ledger;
 mod reply;
 mod returned;
 mod setup;
@@ -22,7 +23,10 @@ mod tests {
     #[test]
     fn agrees_with_the_reference() {
         let mut check = Checker::new(Plain, 3);
-        assert_eq!(check.unseen().len(), 11 + 6 + 1 + 3 + 2 + 2 + 3 + 11 + 16 + 3 + 3 + 4 + 32 + 37);
+        assert_eq!(
+            check.unseen().len(),
+            11 + 6 + 1 + 3 + 2 + 2 + 3 + 11 + 16 + 3 + 3 + 4 + 1 + 3 + 4 + 32 + 57
+        );
         cases::run(&mut check, 3, 20_000).unwrap();
         assert_eq!((check.unseen(), check.unwanted()), (vec![], vec![]));
     }

@@ -3,6 +3,7 @@
 
 pub mod assembly;
 pub mod header;
+pub mod ledger;
 pub mod reply;
 pub mod returned;
 pub mod setup;

@@ -19,6 +19,7 @@ unsafe impl Words for ffi::Setup {}
 unsafe impl Words for ffi::Agreement {}
 unsafe impl Words for ffi::State {}
 unsafe impl Words for ffi::Landed {}
+unsafe impl Words for ffi::Ledger {}
 
 pub fn bytes<T: Words>(value: &T) -> &[u8] {
     unsafe { std::slice::from_raw_parts(std::ptr::from_ref(value).cast(), size_of::<T>()) }

@@ -1,9 +1,10 @@
-//! Wrong variants: the plain calls, or for the reassembly, its order, its goes and what was landed third
-//! ones, with one mistake put in. The families must find each.
+//! Wrong variants: the plain calls, or for the reassembly, its order, its goes, what was landed and the
+//! ledger third ones, with one mistake put in. The families must find each.
 
 mod assembly;
 mod goes;
 mod header;
+mod ledger;
 mod order;
 mod reply;
 mod returned;
@@ -43,6 +44,7 @@ enum Wrong {
     /// Made by the asking for the message alone.
     MessageOrder(order::Mistake),
     Returned(returned::Mistake),
+    Ledger(ledger::Mistake),
 }
 
 /// Stores a word behind what was lent; the guard is there.
@@ -79,4 +81,5 @@ fn without_a_mistake_all_agree() {
     cases::goes::run(&mut check, &mut Rng(6), 2_000).unwrap();
     cases::order::run(&mut check, &mut Rng(6), 2_000).unwrap();
     cases::returned::run(&mut check, rng, 2_000).unwrap();
+    cases::ledger::run(&mut check, rng, 2_000).unwrap();
 }

@@ -1,7 +1,11 @@
 //! Time of the library's calls beside the plain ones and, where bytes are moved, beside the bare
 //! copies. `bench --one CALL INPUT N` just makes N calls, for callgrind; CALL is a row's call
 //! behind lib-, plain- or copy-, INPUT the row's input. A fill is all pieces of a 1 MiB message; the
-//! 16 segments of fall16 are those of reads16 with falling positions.
+//! 16 segments of fall16 are those of reads16 with falling positions. An input of send and reply ends
+//! with the number of calls in flight, their xids rising or across the wrap; each call is made on a fresh
+//! copy of the ledger, and the copying is counted whoever makes the call.
+//! `bench --quadratic` compares, for send and reply, the plain calls with those that look for an xid
+//! twice pair by pair even where the xids rise: plain-send-quadratic and plain-reply-quadratic.
 
 #[cfg(not(library))]
 compile_error!("set EOS_LIB_DIR to the folder that holds libeoswynnor.a");
@@ -10,22 +14,24 @@ use compare::calls::{AssemblyCalls, Calls};
 use compare::cases::assembly::Frame;
 use compare::cases::goes::{chunked, parted, Laid};
 use compare::cases::header::{c2, full, reads16, turned};
+use compare::cases::ledger::{rising, sent};
 use compare::cases::returned::{full_pair, write1};
 use compare::cases::setup::C10;
 use compare::convert::flatten;
 use compare::library::Library;
+use compare::plain::ledger::{reply_quadratic, send_quadratic};
 use compare::plain::Plain;
 use compare::reference::header::{encode, Kind};
 use compare::rng::Rng;
 use compare::words::Words;
-use eoswynnor::ffi::{Agreement, Header, Landed, Setup, State};
+use eoswynnor::ffi::{Agreement, Header, Landed, Ledger, Setup, State};
 use std::hint::black_box;
 use std::ops::Range;
 use std::time::Instant;
 
 const RUNS: usize = 21;
 
-const ROWS: [(&str, &str); 33] = [
+const ROWS: [(&str, &str); 41] = [
     ("read", "c2"),
     ("read", "reads16"),
     ("read", "fall16"),
@@ -59,6 +65,14 @@ const ROWS: [(&str, &str); 33] = [
     ("fill", "runs31"),
     ("returned", "write1"),
     ("returned", "full"),
+    ("send", "flight0"),
+    ("send", "flight8"),
+    ("send", "flight31"),
+    ("send", "wrap31"),
+    ("reply", "flight1"),
+    ("reply", "flight8"),
+    ("reply", "flight31"),
+    ("reply", "wrap31"),
 ];
 
 const MESSAGE: usize = 1 << 20;
@@ -69,8 +83,8 @@ const CLIENT: Setup = Setup { remote_invalidation: 1, send: 4096, receive: 8192 
 const SERVER: Setup = Setup { remote_invalidation: 1, send: 262_144, receive: 3072 };
 
 /// A frame, its header where it has one, the number for an error reply, for the reassembly a frame
-/// to be started and a message to be filled with the length of a piece, and a header sent with its
-/// reply.
+/// to be started and a message to be filled with the length of a piece, a header sent with its reply,
+/// and a ledger.
 struct Input {
     frame: Vec<u8>,
     flat: Header,
@@ -79,6 +93,7 @@ struct Input {
     filling: Filling,
     piece: usize,
     pair: [Header; 2],
+    ledger: Ledger,
 }
 
 fn input(name: &str) -> Input {
@@ -121,7 +136,12 @@ fn input(name: &str) -> Input {
         _ => 0,
     };
     let pair = if name == "full" { full_pair() } else { write1() };
-    Input { frame, flat: flatten(&header), number, start, filling, piece, pair }
+    let in_flight = match (name, name.strip_prefix("flight")) {
+        ("wrap31", _) => rising(u32::MAX - 14, 31),
+        (_, Some(count)) => rising(1000, count.parse().expect("a count")),
+        _ => vec![],
+    };
+    Input { frame, flat: flatten(&header), number, start, filling, piece, pair, ledger: sent(&in_flight) }
 }
 
 /// A message of 1 MiB, started, with the bytes to be pulled.
@@ -180,7 +200,7 @@ fn repeat<T>(count: u64, mut call: impl FnMut() -> T) {
 
 /// Each maker is lent the same.
 fn calls_of<C: Calls>(maker: &C, call: &str, input: &mut Input, count: u64) {
-    let Input { frame, flat, number, pair: [sent, reply], .. } = input;
+    let Input { frame, flat, number, pair: [sent, reply], ledger, .. } = input;
     let (mut out, mut length, mut header) = ([0; 1024], 0, Header::ZERO);
     let (mut data, mut setup, mut present) = (C10, Setup::default(), 0);
     let (mut client, mut server) = (CLIENT, SERVER);
@@ -207,8 +227,19 @@ fn calls_of<C: Calls>(maker: &C, call: &str, input: &mut Input, count: u64) {
         "returned" => repeat(count, || {
             maker.returned(black_box(&mut *sent), black_box(&mut *reply), black_box(&mut landed))
         }),
+        "send" => ledger_calls(ledger, count, |ledger, _| maker.ledger_send(ledger)),
+        "reply" => ledger_calls(ledger, count, |ledger, xid| maker.ledger_reply(ledger, xid, black_box(32))),
         _ => assembly_calls_of(maker, call, input, count),
     }
+}
+
+/// Each call gets a copy of the ledger, and the xid in the middle of those in flight for a reply.
+fn ledger_calls<T>(ledger: &Ledger, count: u64, mut call: impl FnMut(&mut Ledger, u32) -> T) {
+    let (mut copy, xid) = (*ledger, ledger.xids[ledger.count as usize / 2]);
+    repeat(count, || {
+        copy = *black_box(ledger);
+        call(black_box(&mut copy), black_box(xid))
+    })
 }
 
 fn assembly_calls_of<C: Calls>(maker: &C, call: &str, input: &mut Input, count: u64) {
@@ -244,7 +275,12 @@ fn copies(call: &str, input: &mut Input, count: u64) {
 }
 
 fn calls(call: &str, input: &mut Input, count: u64) {
+    let ledger = &input.ledger;
     match call.split_once('-') {
+        Some(("plain", "send-quadratic")) => ledger_calls(ledger, count, |ledger, _| send_quadratic(ledger)),
+        Some(("plain", "reply-quadratic")) => {
+            ledger_calls(ledger, count, |ledger, xid| reply_quadratic(ledger, xid, black_box(32)))
+        }
         Some(("lib", call)) => calls_of(&Library, call, input, count),
         Some(("plain", call)) => calls_of(&Plain, call, input, count),
         Some(("copy", call)) => copies(call, input, count),
@@ -258,12 +294,29 @@ fn nanoseconds(call: &str, input: &mut Input, count: u64) -> f64 {
     start.elapsed().as_nanos() as f64 / count as f64
 }
 
-fn main() {
-    let arguments: Vec<String> = std::env::args().skip(1).collect();
-    if let [one, call, name, count] = &arguments[..] {
-        assert_eq!(one, "--one");
-        return calls(call, &mut input(name), count.parse().expect("a count"));
+/// The times of each call, about 10 ms a run, all in turn, so that they meet the same disturbances.
+fn times(calls: &[String], input: &mut Input, few: u64) -> Vec<Vec<f64>> {
+    let mut count = |call: &String| (1e7 / nanoseconds(call, input, few)) as u64 + 1;
+    let counts: Vec<u64> = calls.iter().map(&mut count).collect();
+    let mut times = vec![vec![]; calls.len()];
+    for which in (0..calls.len() * RUNS).map(|run| run % calls.len()) {
+        times[which].push(nanoseconds(&calls[which], input, counts[which]));
     }
+    times
+}
+
+fn median(list: &[f64]) -> f64 {
+    let mut list = list.to_vec();
+    list.sort_by(f64::total_cmp);
+    list[RUNS / 2]
+}
+
+/// Of each round's two, which the same disturbances have met.
+fn ratio(one: &[f64], to: &[f64]) -> f64 {
+    median(&one.iter().zip(to).map(|(one, to)| one / to).collect::<Vec<_>>())
+}
+
+fn table() {
     println!(
         "{:<11} {:<8} {:>9} {:>9} {:>7} {:>9} {:>7}",
         "call", "input", "lib ns", "plain ns", "ratio", "copy ns", "ratio"
@@ -273,26 +326,35 @@ fn main() {
         // Bare copies where bytes are moved.
         let copied = call == "fill" || call == "take" && input.piece > 0;
         let makers = if copied { &["lib", "plain", "copy"][..] } else { &["lib", "plain"] };
-        let names: Vec<String> = makers.iter().map(|maker| format!("{maker}-{call}")).collect();
-        // About 10 ms a run, all in turn, so that they meet the same disturbances.
-        let few = if call == "fill" { 20 } else { 1000 };
-        let mut count = |call: &String| (1e7 / nanoseconds(call, &mut input, few)) as u64 + 1;
-        let counts: Vec<u64> = names.iter().map(&mut count).collect();
-        let mut times = vec![vec![]; names.len()];
-        for which in (0..names.len() * RUNS).map(|run| run % names.len()) {
-            times[which].push(nanoseconds(&names[which], &mut input, counts[which]));
-        }
-        let median = |mut list: Vec<f64>| -> f64 {
-            list.sort_by(f64::total_cmp);
-            list[RUNS / 2]
-        };
-        // Of each round's two, which the same disturbances have met.
-        let ratio = |to: &[f64]| median(times[0].iter().zip(to).map(|(lib, other)| lib / other).collect());
-        let (lib, plain) = (median(times[0].clone()), median(times[1].clone()));
-        print!("{call:<11} {name:<8} {lib:>9.1} {plain:>9.1} {:>7.2}", ratio(&times[1]));
+        let calls: Vec<String> = makers.iter().map(|maker| format!("{maker}-{call}")).collect();
+        let times = times(&calls, &mut input, if call == "fill" { 20 } else { 1000 });
+        let (lib, plain) = (median(&times[0]), median(&times[1]));
+        print!("{call:<11} {name:<8} {lib:>9.1} {plain:>9.1} {:>7.2}", ratio(&times[0], &times[1]));
         match times.get(2) {
-            Some(copy) => println!(" {:>9.1} {:>7.3}", median(copy.clone()), ratio(copy)),
+            Some(copy) => println!(" {:>9.1} {:>7.3}", median(copy), ratio(&times[0], copy)),
             None => println!(" {:>9} {:>7}", "-", "-"),
         }
+    }
+}
+
+fn quadratic_table() {
+    println!("{:<11} {:<8} {:>9} {:>9} {:>7}", "call", "input", "quadr ns", "plain ns", "ratio");
+    for (call, name) in ROWS.into_iter().filter(|(call, _)| ["send", "reply"].contains(call)) {
+        let calls = [format!("plain-{call}-quadratic"), format!("plain-{call}")];
+        let times = times(&calls, &mut input(name), 1000);
+        let (quadratic, plain) = (median(&times[0]), median(&times[1]));
+        println!("{call:<11} {name:<8} {quadratic:>9.1} {plain:>9.1} {:>7.2}", ratio(&times[0], &times[1]));
+    }
+}
+
+fn main() {
+    let arguments: Vec<String> = std::env::args().skip(1).collect();
+    match &arguments[..] {
+        [] => table(),
+        [quadratic] if quadratic == "--quadratic" => quadratic_table(),
+        [one, call, name, count] if one == "--one" => {
+            calls(call, &mut input(name), count.parse().expect("a count"))
+        }
+        _ => panic!("usage: bench [--quadratic | --one CALL INPUT N]"),
     }
 }

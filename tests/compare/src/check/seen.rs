@@ -18,11 +18,14 @@ pub enum Call {
     Piece,
     Message,
     Returned,
+    LedgerOpen,
+    LedgerSend,
+    LedgerReply,
 }
 
 /// Each call's name and the numbers the families must draw from it; it never gives another. 8 stays
 /// reserved: document 02, order 3.
-const CALLS: [(&str, &[u32]); 12] = [
+const CALLS: [(&str, &[u32]); 15] = [
     ("read", &[0, 1, 2, 3, 4, 5, 6, 7, 9, 10, 11]),
     ("write", &[0, 7, 9, 12, 16, 20]),
     ("setup read", &[0]),
@@ -35,6 +38,9 @@ const CALLS: [(&str, &[u32]); 12] = [
     ("piece", &[0, 17, 18]),
     ("message", &[0, 17, 19]),
     ("returned", &[0, 7, 20, 26]),
+    ("ledger open", &[0]),
+    ("ledger send", &[0, 17, 23]),
+    ("ledger reply", &[0, 17, 24, 25]),
 ];
 
 /// Answers that number 0 does not tell apart; each must be seen too.
@@ -77,9 +83,29 @@ pub enum Form {
     AllLanded,
     LandedAbove32Bits,
     OneHeaderAsBoth,
+    XidAcrossWrap,
+    PassedOver31,
+    PassedAcrossWrap,
+    LastPlaceTaken,
+    RoomFullBelowGrant,
+    SendClears,
+    SendRefusedClearsNot,
+    AgainBehind,
+    GrantAbove32,
+    GrantBelowInFlight,
+    AnsweredAboveGrant,
+    AnsweredOf32,
+    ReplyClears,
+    ReplyRefusedClearsNot,
+    UnknownButBehind,
+    Grant0AndUnknown,
+    HistoryFull,
+    HistoryAcrossWrap,
+    HistoryAboveGrant,
+    HistoryEmptied,
 }
 
-const FORMS: [&str; 37] = [
+const FORMS: [&str; 57] = [
     "setup data",
     "no setup data",
     "no reply",
@@ -117,6 +143,26 @@ const FORMS: [&str; 37] = [
     "32 segments landed in full",
     "more landed than 32 bits",
     "one header as both",
+    "xid given across the wrap",
+    "31 xids passed over",
+    "xids passed over across the wrap",
+    "32nd call sent",
+    "32 in flight below the grant",
+    "send with garbage behind",
+    "send refused with garbage behind",
+    "xid in flight and again behind",
+    "grant above 32 set",
+    "grant below those in flight set",
+    "reply with more in flight than the grant",
+    "reply with 32 in flight",
+    "reply with garbage behind",
+    "reply refused with garbage behind",
+    "reply to an xid behind those in flight",
+    "grant 0 and an xid not in flight",
+    "history with 32 in flight",
+    "history across the wrap",
+    "history with more in flight than the grant",
+    "history with all answered",
 ];
 
 /// Order 2's bound: a piece takes as many goes at most.
@@ -244,6 +290,9 @@ mod tests {
             Piece,
             Message,
             Returned,
+            LedgerOpen,
+            LedgerSend,
+            LedgerReply,
         ];
         for (call, (name, must)) in calls.into_iter().zip(CALLS) {
             let mut seen = Seen::default();

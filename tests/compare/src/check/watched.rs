@@ -103,4 +103,16 @@ impl<C: Calls> Watched<C> {
     pub fn returned_itself(&self, both: &mut Place<ffi::Header>, landed: &mut Place<ffi::Landed>) -> Number {
         both.only_read(|both| self.0.returned_itself(both, landed.lent()))
     }
+
+    pub fn ledger_open(&self, last: u32, ledger: &mut Place<ffi::Ledger>) -> u32 {
+        self.0.ledger_open(last, ledger.lent())
+    }
+
+    pub fn ledger_send(&self, ledger: &mut Place<ffi::Ledger>) -> ffi::SendAnswer {
+        self.0.ledger_send(ledger.lent())
+    }
+
+    pub fn ledger_reply(&self, ledger: &mut Place<ffi::Ledger>, xid: u32, grant: u32) -> u32 {
+        self.0.ledger_reply(ledger.lent(), xid, grant)
+    }
 }
