@@ -3,3 +3,4 @@ pub mod Scans
 pub mod Searching
 pub mod Steps
 pub mod History
+pub mod Conditions

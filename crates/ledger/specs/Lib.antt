@@ -1,3 +1,4 @@
 pub mod Ledger
+pub mod Conditions
 pub mod History
 pub mod Internal

@@ -54,6 +54,12 @@ use Rattle.returned.specs.Filled.{filled, Fills}
 use Rattle.returned.proofs.Fills as fills
 use Rattle.returned.proofs.Unused as unused
 use Rattle.returned.proofs.Lent as lent
+use Rattle.ledger.specs.Ledger.{inFlight, ledgerOf, openAnswer, sendNumber, sendAnswer, sendLedger, replyNumber, replyLedger}
+use Rattle.ledger.specs.Conditions.{In, Unfit, Spent, Next, SameCalls}
+use Rattle.ledger.specs.History.{Operation, history, ledgerAfter, Accounted}
+use Rattle.ledger.specs.declared.Ledger.{Ledger}
+use Rattle.ledger.proofs.Conditions as ledger-conditions
+use Rattle.ledger.proofs.History as ledger-history
 use Rattle.c_header.specs.Part.{partOf}
 use Rattle.c_header.proofs.RoundTrip as c-header
 use Rattle.c_setup.specs.Words.{setupWords, writeSetupWordsAnswer, writeSetupWordsBuffer, Stores}
@@ -64,7 +70,7 @@ use Rattle.theorems.specs.Cuts.{CutOf}
 use Rattle.theorems.specs.Demands.{takenBytes, Finished, Unchanged}
 use Rattle.theorems.specs.Reserved.{NeverGiven}
 use Rattle.theorems.specs.Exports.{exportThen}
-use Rattle.theorems.specs.Examples.{Holds, examples, numbers, edges, returnedCases, goesCases, orderCases, echoCases}
+use Rattle.theorems.specs.Examples.{Holds, examples, numbers, edges, returnedCases, goesCases, orderCases, echoCases, ledgerCases}
 use Rattle.theorems.proofs.Message as message
 use Rattle.theorems.proofs.Demand3 as demand-three
 use Rattle.theorems.proofs.Exports as exports
@@ -391,3 +397,55 @@ exports-order-4-other-version = reply-read.export-other-read
 -- Order 4, case by case.
 pub order-4-cases : All Holds echoCases
 order-4-cases = worked.echoed
+
+-- Order 5: "After any sequence of operations from the start, nobody else writing the ledger, the calls accepted for sending are those answered plus those in flight, taken from the history, and no xid is in flight twice." Each answer is what the history before it says, 17 is none of them, and the whole ledger follows from the history. Library and exports have these definitions in their contracts alike.
+pub order-5-history : (last : ℕ) (os : List Operation) → Accounted last (history (openAnswer last .ledger) os) (ledgerAfter (openAnswer last .ledger) os)
+order-5-history = ledger-history.accounted
+
+-- "the grant starts at 1, and the opener names the last xid": nothing is in flight, and every place is zero.
+pub order-5-opened : (last : ℕ) → openAnswer last ≡ record { ledger = record { xids = replicate 32 0; count = 0; grant = 1; last = last }; number = 0 }
+unfolding openAnswer
+order-5-opened last = refl
+
+-- "A ledger with more in flight, one xid twice or grant 0 gets 17 first."
+pub order-5-unfit : (l : Ledger) → Unfit l → (sendNumber l ≡ 17) × ((xid grant : ℕ) → replyNumber l xid grant ≡ 17)
+order-5-unfit = λ l u. (ledger-conditions.send-17 l u, λ xid grant. ledger-conditions.reply-17 l xid grant u)
+
+-- "it is refused with 23 exactly if the calls in flight reach or pass the grant or 32"
+pub order-5-send : (l : Ledger) → (Unfit l → ⊥) → (Spent l → sendNumber l ≡ 23) × ((Spent l → ⊥) → sendNumber l ≡ 0)
+order-5-send = λ l d. (ledger-conditions.send-23 l d, ledger-conditions.send-0 l d)
+
+-- "25 if the grant is 0, then 24 if the xid is not in flight"
+pub order-5-reply : (l : Ledger) (xid grant : ℕ) → (Unfit l → ⊥) →
+    (grant ≡ 0 → replyNumber l xid grant ≡ 25)
+    × ((grant ≡ 0 → ⊥) → (In xid (inFlight l) → ⊥) → replyNumber l xid grant ≡ 24)
+    × ((grant ≡ 0 → ⊥) → In xid (inFlight l) → replyNumber l xid grant ≡ 0)
+order-5-reply = λ l xid grant d. (ledger-conditions.reply-25 l xid grant d, ledger-conditions.reply-24 l xid grant d, ledger-conditions.reply-0 l xid grant d)
+
+-- "Sending takes the next xid, one more than the last, wrapping to 0 behind the largest, and passing over xids still in flight": at most as many as are in flight, so at most 31.
+pub order-5-next : (l : Ledger) → length (l .xids) ≡ 32 → sendNumber l ≡ 0 → Next l (sendAnswer l .xid)
+order-5-next = ledger-conditions.next-is
+
+-- "Xids stand in sending order .. places behind them are .. zero after an accepted operation"
+pub order-5-sent : (l : Ledger) → sendNumber l ≡ 0 → sendLedger l ≡ ledgerOf (inFlight l ++ sendAnswer l .xid ∷ []) (l .grant) (sendAnswer l .xid)
+order-5-sent = ledger-conditions.sent-ledger
+
+-- "a leaving one closes its gap"; "else the call leaves and the grant is set, above 32 too. A lower grant takes no call back."
+pub order-5-replied : (l : Ledger) (xid grant : ℕ) → replyNumber l xid grant ≡ 0 → (xs ys : List ℕ) → inFlight l ≡ xs ++ xid ∷ ys → (In xid xs → ⊥) → replyLedger l xid grant ≡ ledgerOf (xs ++ ys) grant (l .last)
+order-5-replied = ledger-conditions.replied-ledger
+
+-- "places behind them are ignored": by the checks, and by what an accepted operation leaves.
+pub order-5-ignored : (l k : Ledger) → SameCalls l k →
+    (sendAnswer l ≡ sendAnswer k) × (sendNumber l ≡ 0 → sendLedger l ≡ sendLedger k)
+    × ((xid grant : ℕ) → (replyNumber l xid grant ≡ replyNumber k xid grant) × (replyNumber l xid grant ≡ 0 → replyLedger l xid grant ≡ replyLedger k xid grant))
+order-5-ignored = λ l k s. (ledger-conditions.send-ignores l k s .0, ledger-conditions.send-ignores l k s .1, ledger-conditions.reply-ignores l k s)
+
+-- "A refusal changes nothing.": of the ledger, and hands out no xid.
+pub order-5-refused : (l : Ledger) →
+    ((sendNumber l ≡ 0 → ⊥) → (sendAnswer l ≡ record { number = sendNumber l; xid = 0 }) × (sendLedger l ≡ l))
+    × ((xid grant : ℕ) → (replyNumber l xid grant ≡ 0 → ⊥) → replyLedger l xid grant ≡ l)
+order-5-refused = ledger-conditions.refused
+
+-- Order 5, case by case.
+pub order-5-cases : All Holds ledgerCases
+order-5-cases = worked.booked

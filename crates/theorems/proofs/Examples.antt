@@ -25,9 +25,11 @@ use Rattle.assembly.specs.Assembly.{canArise, pieceNumber, pieceGoes, pieceBuff
 use Rattle.assembly_state.specs.Words.{stateKind, partsIn, stateWords, withTaken}
 use Rattle.theorems.specs.Calls.{runCalls}
 use Rattle.wire.specs.Fits.{All}
-use Rattle.theorems.specs.Examples.{Holds, entryWords, examples, numbers, edges, returnedCases, pieceAnswers, goesCases, handleWords, listWords, orderCases, echoCases}
+use Rattle.theorems.specs.Examples.{Holds, entryWords, examples, numbers, edges, returnedCases, pieceAnswers, goesCases, handleWords, listWords, orderCases, echoCases, ledgerCases}
 use Rattle.header.specs.Words.{kindIn, headerIn, headerWords}
 use Rattle.c_setup.specs.Words.{agreementWords}
+use Rattle.ledger.specs.Ledger.{openAnswer, isIn, anyTwice, unfit, firstFree, nextXid, spent, sendNumber, sendAnswer, sendLedger, replyNumber, without, replyLedger}
+use Rattle.ledger.specs.History.{ledgerAfter, history}
 use Rattle.returned.specs.Returned.{any, pairs, chunkPairs, filledBehindGap, mismatch, chunkLength, returnedNumber, returnedAnswer}
 
 -- "C1 to C13 are proved from the definitions as one list with one claim over it."
@@ -64,3 +66,8 @@ in-any-order = ((refl, refl), ((refl, refl), ((refl, refl), ((refl, refl), ((ref
 pub echoed : All Holds echoCases
 unfolding All words joined wordBytes wordOf wordAt readFrame byProcedure errorBody headerOf granted replyKindOf replyKindFor errorReply errorReplyNumber errorReplyAnswer errorReplyBuffer
 echoed = ((refl, refl), ((refl, refl), ((refl, refl), ((refl, refl), ((refl, refl), ((refl, refl), ((refl, refl), ((refl, refl), ((refl, refl), ((refl, refl), ((refl, refl), ((refl, refl), ((refl, refl), ((refl, refl), ((refl, refl), ((refl, refl), ((refl, refl), ((refl, refl), ((refl, refl), ((refl, refl), ((refl, refl), ((refl, refl), ((refl, refl), ((refl, refl), ((refl, refl), ((refl, refl), ((refl, refl), (refl, (refl, (refl, (refl, (refl, tt))))))))))))))))))))))))))))))))
+
+-- Order 5, case by case.
+pub booked : All Holds ledgerCases
+unfolding All from openAnswer isIn anyTwice unfit firstFree nextXid spent sendNumber sendAnswer sendLedger replyNumber without replyLedger ledgerAfter history
+booked = (refl, (refl, ((refl, refl), ((refl, refl), ((refl, refl), ((refl, refl), ((refl, refl), ((refl, refl), ((refl, refl), ((refl, refl), ((refl, refl), ((refl, refl), ((refl, refl), ((refl, refl), ((refl, refl), ((refl, refl), ((refl, refl), ((refl, refl), ((refl, refl), ((refl, refl), ((refl, refl), ((refl, refl), ((refl, refl), ((refl, refl), ((refl, refl), ((refl, refl), ((refl, refl), ((refl, refl), ((refl, refl), ((refl, refl), ((refl, refl), ((refl, refl), ((refl, refl), ((refl, refl), ((refl, refl), ((refl, refl), ((refl, refl), ((refl, refl), ((refl, refl), ((refl, refl), ((refl, refl), ((refl, refl), ((refl, refl), ((refl, refl), ((refl, refl), ((refl, refl), tt))))))))))))))))))))))))))))))))))))))))))))))

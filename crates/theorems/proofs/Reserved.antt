@@ -37,6 +37,8 @@ use Rattle.layout.specs.declared.Run.{Run}
 use Rattle.assembly_state.specs.State.{State}
 use Rattle.assembly_start.specs.Start.{baseOf, startNumber}
 use Rattle.assembly.specs.Assembly.{pulledOf, fitsState, pieceNumber, messageNumber}
+use Rattle.ledger.specs.Ledger.{inFlight, openAnswer, isIn, unfit, spent, sendNumber, sendAnswer, replyNumber}
+use Rattle.ledger.specs.declared.Ledger.{Ledger}
 use Rattle.returned.specs.Returned.{mismatch, returnedNumber, returnedAnswer, returnedWordsNumber}
 use Rattle.theorems.specs.Reserved.{NeverGiven}
 
@@ -258,8 +260,16 @@ other-asking : (s : State) (room : ℕ) → Other (messageNumber s room)
 unfolding messageNumber
 other-asking s room = other-check (fitsState s room) 17 _ (λ e. omega arith) (other-check (eqb (s .taken) (length (pulledOf s))) 19 0 (λ e. omega arith) never)
 
+other-sent : (l : Ledger) → Other (sendNumber l)
+unfolding sendNumber
+other-sent l = other-check (not (unfit l)) 17 _ (λ e. omega arith) (other-check (not (spent l)) 23 0 (λ e. omega arith) never)
+
+other-answered : (l : Ledger) (xid grant : ℕ) → Other (replyNumber l xid grant)
+unfolding replyNumber
+other-answered l xid grant = other-check (not (unfit l)) 17 _ (λ e. omega arith) (other-check (not (eqb grant 0)) 25 _ (λ e. omega arith) (other-check (isIn xid (inFlight l)) 24 0 (λ e. omega arith) never))
+
 pub never-eight : NeverGiven 8
-unfolding writeAnswer writeSetupAnswer errorReplyAnswer returnedAnswer
+unfolding writeAnswer writeSetupAnswer errorReplyAnswer returnedAnswer openAnswer sendAnswer
 never-eight = record {
   in-reading = λ frame. other-answer (readFrame frame) (other-frame frame) .0;
   in-reading-words = λ frame. other-answer (readFrame frame) (other-frame frame) .1;
@@ -277,4 +287,7 @@ never-eight = record {
   in-replying = other-reply-number;
   in-returning = other-returned;
   in-returning-words = other-returned-words;
+  in-opening = λ last. never;
+  in-sending = other-sent;
+  in-answering = other-answered;
 }

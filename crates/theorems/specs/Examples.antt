@@ -35,6 +35,9 @@ use Rattle.error_reply.specs.declared.ReplyKind.the-variants.{None, Version, Ch
 use Rattle.layout.specs.Places.{from}
 use Rattle.c_setup.specs.Words.{agreementWords}
 use Rattle.returned.specs.Returned.{returnedAnswer, returnedWordsNumber, returnedWordsPlaces}
+use Rattle.ledger.specs.Ledger.{openAnswer, sendAnswer, sendLedger, replyNumber, replyLedger}
+use Rattle.ledger.specs.History.{Operation, sending, replying, Entry, sendGot, replyGot, history, ledgerAfter}
+use Rattle.ledger.specs.declared.Ledger.{Ledger}
 
 -- What a worked example says.
 pub data Example : Type 0 where
@@ -84,6 +87,14 @@ pub data Example : Type 0 where
   lands-not : Header → Header → ℕ → Example
   -- the same of words that are lent: the number, and what five places hold then that held 9
   lends : List ℕ → List ℕ → ℕ → List ℕ → Example
+  -- a ledger opened with this last xid is this one
+  ledger-opens : ℕ → Ledger → Example
+  -- a send on a ledger gets this number and this xid, and leaves this ledger
+  ledger-sends : Ledger → ℕ → ℕ → Ledger → Example
+  -- a reply on a ledger, with this xid and this grant, gets this number and leaves this ledger
+  ledger-replies : Ledger → ℕ → ℕ → ℕ → Ledger → Example
+  -- these operations, from an opening with this last xid, get these answers and leave this ledger
+  ledger-runs : ℕ → List Operation → List Entry → Ledger → Example
 
 -- The answers to pieces of so many bytes, each over the words that the one before it left.
 unfoldable pub pieceAnswers : List ℕ → ℕ → List ℕ → List PieceAnswer
@@ -122,6 +133,10 @@ Holds (lands sent reply writes n) = returnedAnswer sent reply ≡ record { write
 Holds (lands-not sent reply number) = returnedAnswer sent reply ≡ record { writes = 0 ∷ 0 ∷ 0 ∷ 0 ∷ []; reply = 0; number = number }
 Holds (lends sent reply number landed) =
     (returnedWordsNumber (headerIn sent) (headerIn reply) ≡ number) × (returnedWordsPlaces (headerIn sent) (headerIn reply) (replicate 5 9) ≡ landed)
+Holds (ledger-opens last l) = openAnswer last ≡ record { ledger = l; number = 0 }
+Holds (ledger-sends l number xid after) = (sendAnswer l ≡ record { number = number; xid = xid }) × (sendLedger l ≡ after)
+Holds (ledger-replies l xid grant number after) = (replyNumber l xid grant ≡ number) × (replyLedger l xid grant ≡ after)
+Holds (ledger-runs last os entries after) = (history (openAnswer last .ledger) os ≡ entries) × (ledgerAfter (openAnswer last .ledger) os ≡ after)
 
 -- "C2 Words 2a, 1, 20, 0, 0, 0, 0 (hexadecimal)"
 abbrev pub c2 : List ℕ
@@ -620,4 +635,68 @@ echoCases =
     ∷ reply-gives (take 15 c3) 22 32 28 20
     ∷ reply-gives (words (0x2a ∷ 2 ∷ 0x20 ∷ 4 ∷ [])) 22 32 28 20
     ∷ reply-gives c3 5 32 19 16
+    ∷ []
+
+-- A ledger whose first places hold these and whose others hold 9: so many are in flight, the grant and the last xid.
+abbrev pub ledgerWith : List ℕ → ℕ → ℕ → ℕ → Ledger
+ledgerWith xids count grant last = record { xids = xids ++ replicate (32 - length xids) 9; count = count; grant = grant; last = last }
+
+-- The same with zeros in the others, and as many in flight as stand there.
+abbrev pub ledgerOfCalls : List ℕ → ℕ → ℕ → Ledger
+ledgerOfCalls xids grant last = record { xids = xids ++ replicate (32 - length xids) 0; count = length xids; grant = grant; last = last }
+
+-- What order 5 says: opening; sends up to the grant and the room, behind the largest xid, past xids in flight, with the last one given in flight or not; what is ignored behind those in flight, and zero or kept there; the three grounds for 17, first; replies that are taken, at the front, within, at the end, with a lower grant and one above 32; 25 before 24; then histories.
+abbrev pub ledgerCases : List Example
+ledgerCases =
+    ledger-opens 41 (ledgerOfCalls [] 1 41)
+    ∷ ledger-opens 4294967295 (ledgerOfCalls [] 1 4294967295)
+    ∷ ledger-sends (ledgerOfCalls [] 1 41) 0 42 (ledgerOfCalls (42 ∷ []) 1 42)
+    ∷ ledger-sends (ledgerOfCalls (42 ∷ []) 1 42) 23 0 (ledgerOfCalls (42 ∷ []) 1 42)
+    ∷ ledger-sends (ledgerOfCalls (42 ∷ []) 2 42) 0 43 (ledgerOfCalls (42 ∷ 43 ∷ []) 2 43)
+    ∷ ledger-sends (ledgerOfCalls (from 1 31) 32 31) 0 32 (ledgerOfCalls (from 1 32) 32 32)
+    ∷ ledger-sends (ledgerOfCalls (from 1 32) 40 32) 23 0 (ledgerOfCalls (from 1 32) 40 32)
+    ∷ ledger-sends (ledgerOfCalls (from 1 32) 33 32) 23 0 (ledgerOfCalls (from 1 32) 33 32)
+    ∷ ledger-sends (ledgerOfCalls (1 ∷ 2 ∷ 3 ∷ []) 1 3) 23 0 (ledgerOfCalls (1 ∷ 2 ∷ 3 ∷ []) 1 3)
+    ∷ ledger-sends (ledgerOfCalls [] 1 4294967294) 0 4294967295 (ledgerOfCalls (4294967295 ∷ []) 1 4294967295)
+    ∷ ledger-sends (ledgerOfCalls [] 1 4294967295) 0 0 (ledgerOfCalls (0 ∷ []) 1 0)
+    ∷ ledger-sends (ledgerOfCalls [] 1 0) 0 1 (ledgerOfCalls (1 ∷ []) 1 1)
+    ∷ ledger-sends (ledgerOfCalls (0 ∷ 4294967295 ∷ []) 3 4294967294) 0 1 (ledgerOfCalls (0 ∷ 4294967295 ∷ 1 ∷ []) 3 1)
+    ∷ ledger-sends (ledgerOfCalls (5 ∷ []) 2 5) 0 6 (ledgerOfCalls (5 ∷ 6 ∷ []) 2 6)
+    ∷ ledger-sends (ledgerOfCalls (9 ∷ []) 2 5) 0 6 (ledgerOfCalls (9 ∷ 6 ∷ []) 2 6)
+    ∷ ledger-sends (ledgerOfCalls (6 ∷ 8 ∷ []) 3 5) 0 7 (ledgerOfCalls (6 ∷ 8 ∷ 7 ∷ []) 3 7)
+    ∷ ledger-sends (ledgerOfCalls (7 ∷ 6 ∷ []) 3 5) 0 8 (ledgerOfCalls (7 ∷ 6 ∷ 8 ∷ []) 3 8)
+    ∷ ledger-sends (ledgerOfCalls (from 6 31) 32 5) 0 37 (ledgerOfCalls (from 6 31 ++ 37 ∷ []) 32 37)
+    ∷ ledger-sends (ledgerWith (5 ∷ 6 ∷ []) 2 3 6) 0 7 (ledgerOfCalls (5 ∷ 6 ∷ 7 ∷ []) 3 7)
+    ∷ ledger-sends (ledgerWith (5 ∷ 6 ∷ []) 2 2 6) 23 0 (ledgerWith (5 ∷ 6 ∷ []) 2 2 6)
+    ∷ ledger-sends (ledgerWith (7 ∷ 7 ∷ []) 1 2 7) 0 8 (ledgerOfCalls (7 ∷ 8 ∷ []) 2 8)
+    ∷ ledger-sends (ledgerWith (7 ∷ 7 ∷ []) 2 3 7) 17 0 (ledgerWith (7 ∷ 7 ∷ []) 2 3 7)
+    ∷ ledger-sends (ledgerOfCalls (from 1 31 ++ 1 ∷ []) 40 31) 17 0 (ledgerOfCalls (from 1 31 ++ 1 ∷ []) 40 31)
+    ∷ ledger-sends (ledgerWith [] 0 0 5) 17 0 (ledgerWith [] 0 0 5)
+    ∷ ledger-sends (ledgerWith (from 1 32) 33 40 32) 17 0 (ledgerWith (from 1 32) 33 40 32)
+    ∷ ledger-sends (ledgerWith [] 4294967295 40 32) 17 0 (ledgerWith [] 4294967295 40 32)
+    ∷ ledger-replies (ledgerOfCalls (5 ∷ 6 ∷ 7 ∷ 8 ∷ []) 4 8) 6 4 0 (ledgerOfCalls (5 ∷ 7 ∷ 8 ∷ []) 4 8)
+    ∷ ledger-replies (ledgerOfCalls (5 ∷ 6 ∷ 7 ∷ 8 ∷ []) 4 8) 5 4 0 (ledgerOfCalls (6 ∷ 7 ∷ 8 ∷ []) 4 8)
+    ∷ ledger-replies (ledgerOfCalls (5 ∷ 6 ∷ 7 ∷ 8 ∷ []) 4 8) 8 4 0 (ledgerOfCalls (5 ∷ 6 ∷ 7 ∷ []) 4 8)
+    ∷ ledger-replies (ledgerOfCalls (from 1 32) 32 32) 1 32 0 (ledgerOfCalls (from 2 31) 32 32)
+    ∷ ledger-replies (ledgerOfCalls (1 ∷ 2 ∷ 3 ∷ []) 3 3) 2 1 0 (ledgerOfCalls (1 ∷ 3 ∷ []) 1 3)
+    ∷ ledger-replies (ledgerOfCalls (1 ∷ 2 ∷ 3 ∷ []) 1 3) 3 1 0 (ledgerOfCalls (1 ∷ 2 ∷ []) 1 3)
+    ∷ ledger-replies (ledgerOfCalls (7 ∷ []) 1 7) 7 100 0 (ledgerOfCalls [] 100 7)
+    ∷ ledger-replies (ledgerOfCalls (7 ∷ []) 1 7) 7 4294967295 0 (ledgerOfCalls [] 4294967295 7)
+    ∷ ledger-replies (ledgerWith (5 ∷ 6 ∷ 7 ∷ []) 3 3 7) 6 3 0 (ledgerOfCalls (5 ∷ 7 ∷ []) 3 7)
+    ∷ ledger-replies (ledgerWith (5 ∷ 6 ∷ []) 1 3 7) 6 3 24 (ledgerWith (5 ∷ 6 ∷ []) 1 3 7)
+    ∷ ledger-replies (ledgerOfCalls [] 1 41) 0 3 24 (ledgerOfCalls [] 1 41)
+    ∷ ledger-replies (ledgerOfCalls (0 ∷ []) 1 0) 0 3 0 (ledgerOfCalls [] 3 0)
+    ∷ ledger-replies (ledgerWith (5 ∷ []) 1 3 5) 7 0 25 (ledgerWith (5 ∷ []) 1 3 5)
+    ∷ ledger-replies (ledgerWith (5 ∷ []) 1 3 5) 5 0 25 (ledgerWith (5 ∷ []) 1 3 5)
+    ∷ ledger-replies (ledgerWith (5 ∷ []) 1 0 5) 7 0 17 (ledgerWith (5 ∷ []) 1 0 5)
+    ∷ ledger-replies (ledgerWith (5 ∷ []) 1 0 5) 5 3 17 (ledgerWith (5 ∷ []) 1 0 5)
+    ∷ ledger-replies (ledgerWith (5 ∷ 5 ∷ []) 2 3 5) 5 3 17 (ledgerWith (5 ∷ 5 ∷ []) 2 3 5)
+    ∷ ledger-replies (ledgerWith (from 1 32) 33 40 32) 1 3 17 (ledgerWith (from 1 32) 33 40 32)
+    ∷ ledger-runs 41 (sending ∷ sending ∷ replying 42 3 ∷ sending ∷ sending ∷ sending ∷ sending ∷ replying 44 0 ∷ replying 44 1 ∷ replying 44 1 ∷ sending ∷ replying 43 9 ∷ sending ∷ [])
+    (sendGot (record { number = 0; xid = 42 }) ∷ sendGot (record { number = 23; xid = 0 }) ∷ replyGot 42 3 0 ∷ sendGot (record { number = 0; xid = 43 }) ∷ sendGot (record { number = 0; xid = 44 }) ∷ sendGot (record { number = 0; xid = 45 })
+    ∷ sendGot (record { number = 23; xid = 0 }) ∷ replyGot 44 0 25 ∷ replyGot 44 1 0 ∷ replyGot 44 1 24 ∷ sendGot (record { number = 23; xid = 0 }) ∷ replyGot 43 9 0 ∷ sendGot (record { number = 0; xid = 46 }) ∷ [])
+    (ledgerOfCalls (45 ∷ 46 ∷ []) 9 46)
+    ∷ ledger-runs 4294967293 (sending ∷ replying 4294967294 40 ∷ sending ∷ sending ∷ sending ∷ replying 0 40 ∷ [])
+    (sendGot (record { number = 0; xid = 4294967294 }) ∷ replyGot 4294967294 40 0 ∷ sendGot (record { number = 0; xid = 4294967295 }) ∷ sendGot (record { number = 0; xid = 0 }) ∷ sendGot (record { number = 0; xid = 1 }) ∷ replyGot 0 40 0 ∷ [])
+    (ledgerOfCalls (4294967295 ∷ 1 ∷ []) 40 1)
     ∷ []

@@ -15,6 +15,8 @@ use Rattle.assembly_state.specs.State.{State}
 use Rattle.assembly_start.specs.Start.{startAnswer}
 use Rattle.assembly.specs.Assembly.{pieceAnswer, messageNumber}
 use Rattle.returned.specs.Returned.{returnedAnswer, returnedWordsNumber}
+use Rattle.ledger.specs.Ledger.{openAnswer, sendAnswer, replyNumber}
+use Rattle.ledger.specs.declared.Ledger.{Ledger}
 
 -- No call with a number gives n: those of the library, and of the exports where they have a definition of their own.
 pub record NeverGiven (n : ℕ) : Type 0 where
@@ -34,3 +36,6 @@ pub record NeverGiven (n : ℕ) : Type 0 where
   pub in-replying : (frame : List ℕ) (number limit room : ℕ) → errorReplyAnswer frame number limit room .number ≡ n → ⊥
   pub in-returning : (sent reply : Header) → returnedAnswer sent reply .number ≡ n → ⊥
   pub in-returning-words : (sent reply : Option Header) → returnedWordsNumber sent reply ≡ n → ⊥
+  pub in-opening : (last : ℕ) → openAnswer last .number ≡ n → ⊥
+  pub in-sending : (l : Ledger) → sendAnswer l .number ≡ n → ⊥
+  pub in-answering : (l : Ledger) (xid grant : ℕ) → replyNumber l xid grant ≡ n → ⊥

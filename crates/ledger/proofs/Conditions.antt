@@ -1,0 +1,220 @@
+-- The tests that definitions and code make are the conditions of order 5, said by places.
+-- Assumes nothing.
+use mathlib.Core.Path.{_≡_, refl, sym, ap, _∙_}
+use mathlib.Core.Bool.{Bool, true, false, cond, not, _||_, false≢true, true≢false, or-true}
+use mathlib.Core.List.{List, [], _∷_, _++_}
+use Prim.Native.Nat.{ℕ, zero, suc, _+_, _%_, _≤_, _<_}
+use native.Mathlib.Omega.{arith}
+use lib.ListN.{length, take, getD, length-append, length-take}
+use lib.Dec.{eqb, leb, ltb}
+use borrow.Author.Tests.{eqb-true, eq-eqb, ne-eqb, leb-true, leb-false, le-leb, ltb-true, lt-ltb, not-true}
+use Rattle.answers.specs.Answers.{check}
+use Rattle.answers.proofs.Checks.{neither, check-passed}
+use Rattle.ledger.specs.Ledger.{maxInFlight, inFlight, ledgerOf, isIn, anyTwice, unfit, xidAfter, firstFree, nextXid, spent, sendNumber, sendAnswer, sendLedger, replyNumber, without, replyLedger}
+use Rattle.ledger.specs.Conditions.{In, Twice, Unfit, more-in-flight, one-twice, no-grant, Spent, reach-grant, reach-room, Next, SameCalls}
+use Rattle.ledger.specs.declared.Ledger.{Ledger}
+use Rattle.ledger.proofs.Searching.{Found, finds, finds-free}
+use Rattle.ledger.proofs.Steps.{all-in-flight, send-kept, reply-kept}
+
+-- In a list.
+pub in-at : (x : ℕ) (xs : List ℕ) → isIn x xs ≡ true → In x xs
+unfolding isIn
+in-at x [] e = absurd (false≢true e)
+in-at x (y ∷ ys) e = by-test (eqb x y) refl (λ h. in-at x ys h)
+  where
+    by-test : (c : Bool) → eqb x y ≡ c → (isIn x ys ≡ true → In x ys) → In x (y ∷ ys)
+    by-test true q again = record { place = 0; within = omega arith; is = sym (eqb-true x y q) }
+    by-test false q again = let i = again (rw q at e) in let within = i .within in record { place = suc (i .place); within = omega arith; is = i .is }
+
+in-place : (x : ℕ) (xs : List ℕ) (k : ℕ) → k < length xs → getD xs k 0 ≡ x → isIn x xs ≡ true
+unfolding isIn
+in-place x [] k h e = absurd (omega arith)
+in-place x (y ∷ ys) zero h e = rw (eq-eqb x y (sym e))
+in-place x (y ∷ ys) (suc k) h e = rw (in-place x ys k (omega arith) e, or-true (eqb x y))
+
+pub at-in : (x : ℕ) (xs : List ℕ) → In x xs → isIn x xs ≡ true
+at-in x xs i = in-place x xs (i .place) (i .within) (i .is)
+
+pub not-in : (x : ℕ) (xs : List ℕ) → isIn x xs ≡ false → In x xs → ⊥
+not-in x xs e i = true≢false (sym (at-in x xs i) ∙ e)
+
+-- Twice in a list.
+twice-at : (xs : List ℕ) → anyTwice xs ≡ true → Twice xs
+unfolding anyTwice
+twice-at [] e = absurd (false≢true e)
+twice-at (x ∷ xs) e = by-test (isIn x xs) refl (λ h. twice-at xs h)
+  where
+    by-test : (c : Bool) → isIn x xs ≡ c → (anyTwice xs ≡ true → Twice xs) → Twice (x ∷ xs)
+    by-test true q again = let i = in-at x xs q in let within = i .within in record { first = 0; second = suc (i .place); before = omega arith; within = omega arith; same = sym (i .is) }
+    by-test false q again =
+        let t = again (rw q at e) in
+        let before = t .before in
+        let within = t .within in
+        record { first = suc (t .first); second = suc (t .second); before = omega arith; within = omega arith; same = t .same }
+
+twice-places : (xs : List ℕ) (i j : ℕ) → i < j → j < length xs → getD xs i 0 ≡ getD xs j 0 → anyTwice xs ≡ true
+unfolding anyTwice
+twice-places [] i j h k e = absurd (omega arith)
+twice-places (x ∷ xs) i zero h k e = absurd (omega arith)
+twice-places (x ∷ xs) zero (suc j) h k e = rw (in-place x xs j (omega arith) (sym e))
+twice-places (x ∷ xs) (suc i) (suc j) h k e = rw (twice-places xs i j (omega arith) (omega arith) e, or-true (isIn x xs))
+
+at-twice : (xs : List ℕ) → Twice xs → anyTwice xs ≡ true
+at-twice xs t = twice-places xs (t .first) (t .second) (t .before) (t .within) (t .same)
+
+-- "A ledger with more in flight, one xid twice or grant 0"
+unfit-is : (l : Ledger) → unfit l ≡ true → Unfit l
+unfolding unfit
+unfit-is l e = by-test (ltb maxInFlight (l .count)) refl (anyTwice (inFlight l)) refl (eqb (l .grant) 0) refl
+  where
+    by-test : (a : Bool) → ltb maxInFlight (l .count) ≡ a → (b : Bool) → anyTwice (inFlight l) ≡ b → (c : Bool) → eqb (l .grant) 0 ≡ c → Unfit l
+    by-test true p b q c r = more-in-flight (ltb-true maxInFlight (l .count) p)
+    by-test false p true q c r = one-twice (twice-at (inFlight l) q)
+    by-test false p false q true r = no-grant (eqb-true (l .grant) 0 r)
+    by-test false p false q false r = absurd (false≢true (rw (p, q, r) at e))
+
+is-unfit : (l : Ledger) → Unfit l → unfit l ≡ true
+unfolding unfit
+is-unfit l (more-in-flight h) = rw (lt-ltb maxInFlight (l .count) h)
+is-unfit l (one-twice t) = rw (at-twice (inFlight l) t, or-true (ltb maxInFlight (l .count)))
+is-unfit l (no-grant e) = rw (eq-eqb (l .grant) 0 e, or-true (anyTwice (inFlight l)), or-true (ltb maxInFlight (l .count)))
+
+fit-is : (l : Ledger) → (Unfit l → ⊥) → unfit l ≡ false
+fit-is l d = by-test (unfit l) refl
+  where
+    by-test : (c : Bool) → unfit l ≡ c → unfit l ≡ false
+    by-test true e = absurd (d (unfit-is l e))
+    by-test false e = e
+
+-- "the calls in flight reach or pass the grant or 32"
+spent-is : (l : Ledger) → spent l ≡ true → Spent l
+unfolding spent
+spent-is l e = by-test (leb (l .grant) (l .count)) refl (leb maxInFlight (l .count)) refl
+  where
+    by-test : (a : Bool) → leb (l .grant) (l .count) ≡ a → (b : Bool) → leb maxInFlight (l .count) ≡ b → Spent l
+    by-test true p b q = reach-grant (leb-true (l .grant) (l .count) p)
+    by-test false p true q = reach-room (leb-true maxInFlight (l .count) q)
+    by-test false p false q = absurd (false≢true (rw (p, q) at e))
+
+is-spent : (l : Ledger) → Spent l → spent l ≡ true
+unfolding spent
+is-spent l (reach-grant h) = rw (le-leb (l .grant) (l .count) h)
+is-spent l (reach-room h) = rw (le-leb maxInFlight (l .count) h, or-true (leb (l .grant) (l .count)))
+
+not-spent-is : (l : Ledger) → (Spent l → ⊥) → spent l ≡ false
+not-spent-is l d = by-test (spent l) refl
+  where
+    by-test : (c : Bool) → spent l ≡ c → spent l ≡ false
+    by-test true e = absurd (d (spent-is l e))
+    by-test false e = e
+
+absent-is : (x : ℕ) (xs : List ℕ) → (In x xs → ⊥) → isIn x xs ≡ false
+absent-is x xs d = by-test (isIn x xs) refl
+  where
+    by-test : (c : Bool) → isIn x xs ≡ c → isIn x xs ≡ false
+    by-test true e = absurd (d (in-at x xs e))
+    by-test false e = e
+
+-- The number of a send, and of a reply: the first condition that holds.
+module _ (l : Ledger) where
+  pub send-17 : Unfit l → sendNumber l ≡ 17
+  unfolding sendNumber
+  send-17 u = rw (is-unfit l u)
+
+  pub send-23 : (Unfit l → ⊥) → Spent l → sendNumber l ≡ 23
+  unfolding sendNumber
+  send-23 d s = rw (fit-is l d, is-spent l s)
+
+  pub send-0 : (Unfit l → ⊥) → (Spent l → ⊥) → sendNumber l ≡ 0
+  unfolding sendNumber
+  send-0 d s = rw (fit-is l d, not-spent-is l s)
+
+  module _ (xid grant : ℕ) where
+    pub reply-17 : Unfit l → replyNumber l xid grant ≡ 17
+    unfolding replyNumber
+    reply-17 u = rw (is-unfit l u)
+
+    pub reply-25 : (Unfit l → ⊥) → grant ≡ 0 → replyNumber l xid grant ≡ 25
+    unfolding replyNumber
+    reply-25 d e = rw (fit-is l d, eq-eqb grant 0 e)
+
+    pub reply-24 : (Unfit l → ⊥) → (grant ≡ 0 → ⊥) → (In xid (inFlight l) → ⊥) → replyNumber l xid grant ≡ 24
+    unfolding replyNumber
+    reply-24 d g f = rw (fit-is l d, ne-eqb grant 0 g, absent-is xid (inFlight l) f)
+
+    pub reply-0 : (Unfit l → ⊥) → (grant ≡ 0 → ⊥) → In xid (inFlight l) → replyNumber l xid grant ≡ 0
+    unfolding replyNumber
+    reply-0 d g i = rw (fit-is l d, ne-eqb grant 0 g, at-in xid (inFlight l) i)
+
+-- What is accepted.
+accepts : (l : Ledger) → sendNumber l ≡ 0 → (unfit l ≡ false) × (spent l ≡ false)
+unfolding sendNumber
+accepts l e =
+    let f = check-passed (not (unfit l)) 17 (check (not (spent l)) 23 0) (omega arith) e in
+    let g = check-passed (not (spent l)) 23 0 (omega arith) (f .1) in
+    (not-true (unfit l) (f .0), not-true (spent l) (g .0))
+
+below : (l : Ledger) → spent l ≡ false → l .count < maxInFlight
+unfolding spent
+below l e = leb-false maxInFlight (l .count) (neither (leb (l .grant) (l .count)) (leb maxInFlight (l .count)) e .1)
+
+-- The xid of a call that is sent.
+pub next-is : (l : Ledger) → length (l .xids) ≡ maxInFlight → sendNumber l ≡ 0 → Next l (sendAnswer l .xid)
+unfolding sendAnswer nextXid
+next-is l long e =
+    let room = below l (accepts l e .1) in
+    let all = all-in-flight l long (omega arith) in
+    let f : Found (l .count) (l .last + 1) (inFlight l) (firstFree (l .count) (xidAfter (l .last)) (inFlight l)) = finds (l .count) (l .last + 1) (inFlight l) in
+    let most = f .most in
+    rw e (record {
+      passed = f .passed;
+      few = most;
+      most = omega arith;
+      is = f .is;
+      over = λ k h. in-at ((l .last + 1 + k) % 4294967296) (inFlight l) (f .over k h);
+      free = not-in _ (inFlight l) (rw all at (finds-free (l .last + 1) (inFlight l) (omega arith)));
+    })
+
+-- It joins at the end, and is the last one given.
+pub sent-ledger : (l : Ledger) → sendNumber l ≡ 0 → sendLedger l ≡ ledgerOf (inFlight l ++ sendAnswer l .xid ∷ []) (l .grant) (sendAnswer l .xid)
+unfolding sendLedger sendAnswer
+sent-ledger l e = rw e
+
+-- A call that is answered leaves, those behind it close the gap, and the grant is set.
+gap-closes : (x : ℕ) (xs ys : List ℕ) → isIn x xs ≡ false → without x (xs ++ x ∷ ys) ≡ xs ++ ys
+unfolding isIn without
+gap-closes x [] ys e = rw (eq-eqb x x refl)
+gap-closes x (z ∷ xs) ys e = let f = neither (eqb x z) (isIn x xs) e in rw (f .0) (ap (λ (zs : List ℕ). z ∷ zs) (gap-closes x xs ys (f .1)))
+
+pub replied-ledger : (l : Ledger) (xid grant : ℕ) → replyNumber l xid grant ≡ 0 → (xs ys : List ℕ) → inFlight l ≡ xs ++ xid ∷ ys → (In xid xs → ⊥) → replyLedger l xid grant ≡ ledgerOf (xs ++ ys) grant (l .last)
+unfolding replyLedger
+replied-ledger l xid grant e xs ys split d = rw (e, split, gap-closes xid xs ys (absent-is xid xs d))
+
+-- "places behind them are ignored"
+module _ (l k : Ledger) (s : SameCalls l k) where
+  send-number-same : sendNumber l ≡ sendNumber k
+  unfolding sendNumber unfit spent
+  send-number-same = rw (s .calls, s .count, s .grant)
+
+  next-same : nextXid l ≡ nextXid k
+  unfolding nextXid
+  next-same = rw (s .calls, s .count, s .last)
+
+  pub send-ignores : (sendAnswer l ≡ sendAnswer k) × (sendNumber l ≡ 0 → sendLedger l ≡ sendLedger k)
+  unfolding sendAnswer sendLedger
+  send-ignores = (rw (send-number-same, next-same), λ e. rw (e, sym send-number-same ∙ e, next-same, s .calls, s .grant))
+
+  reply-number-same : (xid grant : ℕ) → replyNumber l xid grant ≡ replyNumber k xid grant
+  unfolding replyNumber unfit
+  reply-number-same xid grant = rw (s .calls, s .count, s .grant)
+
+  pub reply-ignores : (xid grant : ℕ) → (replyNumber l xid grant ≡ replyNumber k xid grant) × (replyNumber l xid grant ≡ 0 → replyLedger l xid grant ≡ replyLedger k xid grant)
+  unfolding replyLedger
+  reply-ignores xid grant = (reply-number-same xid grant, λ e. rw (e, sym (reply-number-same xid grant) ∙ e, s .calls, s .last))
+
+-- "A refusal changes nothing."
+pub refused : (l : Ledger) →
+    ((sendNumber l ≡ 0 → ⊥) → (sendAnswer l ≡ record { number = sendNumber l; xid = 0 }) × (sendLedger l ≡ l))
+    × ((xid grant : ℕ) → (replyNumber l xid grant ≡ 0 → ⊥) → replyLedger l xid grant ≡ l)
+unfolding sendAnswer
+refused l = (λ d. (rw (ne-eqb (sendNumber l) 0 d), sym (send-kept l d)), λ xid grant d. sym (reply-kept l xid grant d))
