@@ -6,7 +6,7 @@ use mathlib.Core.List.{List, [], _∷_, _++_, append-assoc, append-nil}
 use native.Mathlib.Numerals.{add-one}
 use native.Mathlib.Omega.{arith}
 use Prim.Native.Nat.{ℕ, suc, _+_, _-_, _≤_, _<_}
-use lib.ListN.{length, take, drop, getD, set, replicate, take-append-drop, length-append, length-take, length-drop, length-replicate, drop-of-length-le, replicate-append-replicate}
+use lib.ListN.{length, take, drop, getD, set, replicate, take-append-drop, length-append, length-drop, length-replicate, drop-of-length-le, replicate-append-replicate}
 use lib.Seq.{drop-cons, drop-length, length-take-le, set-at, take-suc, append-snoc, getD-drop, drop-drop, take-take, take-at, drop-at, take-add, take-append-add, getD-append-add, take-suc-set, take-all}
 use lib.Dec.{eqb, ltb}
 use borrow.Author.Tests.{eq-eqb, ne-eqb, le-ltb, lt-ltb}
@@ -166,9 +166,3 @@ moved-all n p xs h k =
     let rest : drop (p + 1) (take n xs) ≡ take (n - 1 - p) (drop (p + 1) xs) =
     ap (λ (j : ℕ). drop (p + 1) (take j xs)) whole ∙ ap (λ (l : List ℕ). drop (p + 1) l) (take-add (p + 1) (n - 1 - p) xs) ∙ drop-at (take (p + 1) xs) (take (n - 1 - p) (drop (p + 1) xs)) (p + 1) ahead in
     rw (kept, cut, rest, take-take p n xs (omega arith))
-
--- Cleared from a place on, the list has all its places.
-pub length-cleared : (n : ℕ) (xs ys : List ℕ) → n ≤ maxInFlight → ys ≡ padded (take n xs) → length ys ≡ maxInFlight
-length-cleared n xs ys h e =
-    let few = length-take n xs in
-    ap length e ∙ simp (length-append, length-replicate {A = ℕ} (maxInFlight - length (take n xs)) 0) (omega arith)

@@ -140,7 +140,7 @@ fn place_of(list: &[u32], xid: u32) -> usize
 // Zeros behind the first n xids.
 fn clear(xids: &mut [u32], n: usize)
     requires { ⌜ (n ≤ 32) × (length (now xids) ≡ 32) ⌝ }
-    ensures { λ _. ⌜ now (xids .exit) ≡ padded (take n (now (xids .entry))) ⌝ }
+    ensures { λ _. ⌜ (now (xids .exit) ≡ padded (take n (now (xids .entry)))) × (length (now (xids .exit)) ≡ 32) ⌝ }
 {
     for i in n..MAX_IN_FLIGHT {
         xids[i] = 0;

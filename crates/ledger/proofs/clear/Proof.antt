@@ -29,7 +29,7 @@ returns : tie.Need-returns Inv-loop μ-loop
 returns c =
     let a = c .before .before .args in
     let given = c .before .before .pre in
-    c .before .loop .inv .3 ∙ cleared-all (a .n) (c .before .loop .i) (now (a .xids)) (given .1) (given .0) (omega arith)
+    (c .before .loop .inv .3 ∙ cleared-all (a .n) (c .before .loop .i) (now (a .xids)) (given .1) (given .0) (omega arith), c .before .loop .inv .2)
 
 pub clear-spec : {M : Type 1} → statement M
 clear-spec =

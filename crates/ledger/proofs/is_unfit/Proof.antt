@@ -18,7 +18,7 @@ slice-aggregate-any-twice : tie.Need-slice-aggregate-any-twice
 slice-aggregate-any-twice c =
     let a = c .before .before .before .before .args in
     let full = c .before .before .before .before .pre in
-    sym (length-take-le (a .count) (now (a .xids)) (omega arith))
+    sym (length-take-le _ (now (a .xids)) (omega arith))
 
 returns-3 : tie.Need-returns-3
 returns-3 c last =

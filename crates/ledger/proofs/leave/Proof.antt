@@ -5,7 +5,7 @@ use lib.ListN.{length, length-set}
 use denote.Ref.{now}
 use native.Mathlib.Omega.{arith}
 use borrow.Author.Needs.{needs}
-use Rattle.ledger.proofs.Scans.{moved, moved-none, moved-next, moved-all, length-cleared}
+use Rattle.ledger.proofs.Scans.{moved, moved-none, moved-next, moved-all}
 use Rattle.ledger.proofs.leave.Statement.{statement}
 use Rattle.ledger.proofs.leave.Tie as tie
 
@@ -32,10 +32,7 @@ clear-requires c κs =
     (omega arith, known .3)
 
 same-length : tie.Need-same-length Inv-loop μ-loop
-same-length c =
-    let a = c .before .before .before .before .before .before .before .args in
-    let g = c .before .before .before .before .before .before .before .pre in
-    length-cleared (a .n - 1) _ _ (omega arith) (c .before .before .clear .ensures) ∙ sym (g .2)
+same-length c = c .before .before .clear .ensures .1 ∙ sym (c .before .before .before .before .before .before .before .pre .2)
 
 returns : tie.Need-returns Inv-loop μ-loop
 returns c =
@@ -43,7 +40,7 @@ returns c =
     let g = c .before .before .before .before .before .before .before .pre in
     let known = c .before .before .before .before .before .loop .inv in
     let end : c .before .before .before .before .before .loop .i ≡ a .n - 1 = omega arith in
-    c .before .before .clear .ensures ∙ rw (known .4, end, moved-all (a .n) (a .p) (now (a .xids)) (g .0) (omega arith))
+    c .before .before .clear .ensures .0 ∙ rw (known .4, end, moved-all (a .n) (a .p) (now (a .xids)) (g .0) (omega arith))
 
 pub leave-spec : {M : Type 1} → statement M
 leave-spec =

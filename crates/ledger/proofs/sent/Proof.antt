@@ -15,7 +15,7 @@ returns c =
 returns-2 : tie.Need-returns-2
 returns-2 c =
     let l = c .before .before .before .before .before .before .before .args .ledger in
-    c .not-sent2 .ensures ∙ sent-spent l (sym (c .before .before .before .before .is-unfit .ensures (l .last)) ∙ c .before .before .before .if1 .left) (reaches-grant l (c .before .if2 .taken))
+    c .not-sent2 .ensures ∙ sent-spent l (sym (c .before .before .before .before .is-unfit .ensures (l .last)) ∙ c .before .before .before .if1 .left) (reaches-grant l (omega (arith, c .before .if2 .taken)))
 
 returns-3 : tie.Need-returns-3
 returns-3 c =
@@ -46,7 +46,7 @@ returns-4 c =
     let full : length (l .xids) ≡ 32 = search needs in
     let below = c .before .before .before .before .before .before .before .if3 .left in
     sent-done l (sym (c .before .before .before .before .before .before .before .before .before .before .before .before .is-unfit .ensures (l .last)) ∙ c .before .before .before .before .before .before .before .before .before .before .before .if1 .left)
-    (not-spent l (c .before .before .before .before .before .before .before .before .before .if2 .left) below) (all-in-flight l full (omega (arith, below)))
+    (not-spent l (omega (arith, c .before .before .before .before .before .before .before .before .before .if2 .left)) below) (all-in-flight l full (omega (arith, below)))
     _ (c .before .before .before .before .next-xid .ensures) _ (c .before .before .join .ensures)
 
 pub sent-spec : {M : Type 1} → statement M
