@@ -1,6 +1,7 @@
 /*
  * Eoswynnor: proved calls for RPC over RDMA version 1 (RFC 8166) with the connection setup data of RFC 8797. For a server:
- * the receiver of calls. For a client: what a reply says was put into the chunks that were sent.
+ * the receiver of calls. For a client: a ledger of the calls in flight, and what a reply says was put into the chunks that
+ * were sent.
  * C99 and C++, x86-64 System V alone. Link with -leoswynnor; the library needs memcpy, memmove and memset, keeps
  * nothing between calls, takes no memory and may be called from any thread.
  *
@@ -12,10 +13,12 @@
  *   nobody else writes what is lent meanwhile. Things that are only read may be the same.
  * - The state of a reassembly is handed on: each call gets it as the last one left it, and the same buffer, with nothing
  *   in it changed. Another length of the buffer is refused; other contents cannot be noticed.
+ * - So is a ledger: each call gets it as the last one left it. What holds of a ledger since it was opened holds of such a one.
  *
- * For the rest any bytes, header, state and number may be handed in. A call answers a number, 0 when done, and stores what
- * it makes where the caller says. Two hand back a struct in place of the number: eos_take_piece with the number in it,
- * eos_payload, which never refuses, with none. A refused call changes nothing that was lent: no byte, no struct, no number.
+ * For the rest any bytes, header, state, ledger and number may be handed in. A call answers a number, 0 when done, and stores
+ * what it makes where the caller says. Three hand back a struct in place of the number: eos_take_piece and eos_ledger_send
+ * with the number in it, eos_payload, which never refuses, with none. A refused call changes nothing that was lent: no byte,
+ * no struct, no number.
  * No struct has holes. A reserved word is zero in what a call makes and ignored in what it is given.
  *
  * The way of a call, for a server:
@@ -37,10 +40,14 @@
  *
  * The way of a reply, for a client:
  *
+ *     struct eos_ledger ledger;
  *     struct eos_header reply;
  *     struct eos_landed landed;
+ *     eos_ledger_open(last, &ledger), once: last is the xid before the first one to be given
+ *     struct eos_send_answer call = eos_ledger_send(&ledger): with EOS_CREDIT_SPENT wait for a reply; else sent.xid = call.xid
  *     number = eos_write_header(&sent, frame, frame_len, &length): send the frame, and keep sent as it is
  *     number = eos_read_header(reply_frame, reply_frame_len, &reply): with an ERROR kind the server refused the call
+ *     if (eos_ledger_reply(&ledger, reply.xid, reply.credit) != EOS_DONE) it answers no call in flight, or grants nothing
  *     if (eos_returned(&sent, &reply, &landed) == EOS_DONE)
  *         landed tells how many bytes the reply says are in each write chunk and in the reply chunk
  *
@@ -70,6 +77,7 @@ extern "C" {
 #define EOS_MAX_GOES 31           /* of one piece */
 #define EOS_MAX_HEADER 1024       /* bytes of a header to be written: room that always suffices */
 #define EOS_MAX_REPLY 28          /* bytes of an error reply: room that always suffices */
+#define EOS_MAX_IN_FLIGHT 32      /* calls of a ledger */
 #define EOS_SETUP_BYTES 8         /* bytes of setup data */
 #define EOS_MIN_SIZE 1024         /* of a send or receive size, which is a multiple of 1,024 */
 #define EOS_MAX_SIZE 262144
@@ -97,12 +105,16 @@ enum eos_number {
                                     behind the base and all padded chunks before it together; before is by position */
     EOS_MESSAGE_LONG = 15,       /* message above 1,048,576 bytes */
     EOS_BUFFER_SHORT = 16,       /* output buffer too short */
-    EOS_STATE_UNFIT = 17,        /* state not one that can arise, or another buffer length than at the start */
+    EOS_STATE_UNFIT = 17,        /* state not one that can arise, or another buffer length than at the start; a ledger with
+                                    more than 32 calls in flight, one xid twice among them, or grant 0 */
     EOS_PIECE_LONG = 18,         /* piece longer than what is still to be pulled */
     EOS_BYTES_MISSING = 19,      /* message asked for before all bytes are in */
     EOS_BAD_ARGUMENT = 20,       /* credit limit 0, a size out of rule, an answer number above 21; a kind or flag that
                                     does not exist, in a header or in setup data */
     EOS_HEADER_LONG = 21,        /* a header to be written is longer than 1,024 bytes */
+    EOS_CREDIT_SPENT = 23,       /* the calls in flight reach or pass the grant or 32 */
+    EOS_XID_UNKNOWN = 24,        /* a reply's xid is not in flight */
+    EOS_GRANT_ZERO = 25,         /* a reply's grant is 0 */
     EOS_REPLY_MISMATCH = 26      /* a reply that cannot answer the header that was sent; the conditions are listed with
                                     eos_returned */
 };
@@ -195,6 +207,21 @@ struct eos_landed {
     uint64_t reply;                        /* 0 where no reply chunk came back */
 };
 
+/* The calls in flight of one connection. Leave the fields alone. */
+struct eos_ledger {
+    uint32_t xids[EOS_MAX_IN_FLIGHT]; /* of the calls in flight, in sending order; places behind them are ignored, and zero
+                                         after an accepted call */
+    uint32_t count;                   /* how many calls are in flight */
+    uint32_t grant;                   /* how many there may be */
+    uint32_t last;                    /* the last xid given */
+};
+
+/* What a send is answered with. */
+struct eos_send_answer {
+    uint32_t number;
+    uint32_t xid;                 /* of the call; 0 if it is refused, and an xid like any other if it is not */
+};
+
 /* Reads the header of a frame, its lists as they stand. Numbers 1 to 4, then 5, 6, 7, 9, 10 from left to right, then 11. */
 uint32_t eos_read_header(const uint8_t *frame, size_t frame_len, struct eos_header *header);
 
@@ -226,7 +253,7 @@ uint32_t eos_grant(uint32_t asked, uint32_t limit, uint32_t *credit);
  * send nothing. The reply carries the frame's xid and the grant for its credit word under limit, our credit limit. A
  * version error has the frame's own version word, whatever it is, by which its sender matches it, and low and high 1;
  * eos_read_header() gives 2 for it unless that word is 1. A chunk error has version 1. Numbers 20 (limit 0, or a number
- * above 21, 26 too), then 16. */
+ * above 21, 23 to 26 too), then 16. */
 uint32_t eos_error_reply(const uint8_t *frame, size_t frame_len, uint32_t number, uint32_t limit, uint8_t *out,
                          size_t out_len, size_t *length);
 
@@ -262,6 +289,19 @@ uint32_t eos_message(const struct eos_state *state, const uint8_t *out, size_t o
  * In MSG the reply chunk may be missing. An ERROR reply gets 26 too: look at its kind first. After a refusal nothing that
  * lies in the chunks may be used. */
 uint32_t eos_returned(const struct eos_header *sent, const struct eos_header *reply, struct eos_landed *landed);
+
+/* Opens a ledger: no call in flight, grant 1, and last as the last xid given. What it held is not looked at. Always number
+ * 0. */
+uint32_t eos_ledger_open(uint32_t last, struct eos_ledger *ledger);
+
+/* Sends a call: gives it the next xid, which joins those in flight at their end and is the last one given from then on. It
+ * is one more than the last one, 0 behind the largest, and xids in flight are passed over, at most 31. Numbers 17, 23. */
+struct eos_send_answer eos_ledger_send(struct eos_ledger *ledger);
+
+/* Takes a reply, which names an xid and a grant: the call is in flight no longer, those behind it close the gap in order,
+ * and the grant is set, above 32 too. A lower grant takes no call back: sends are refused until enough replies have come.
+ * Numbers 17, 25, 24. */
+uint32_t eos_ledger_reply(struct eos_ledger *ledger, uint32_t xid, uint32_t grant);
 
 #ifdef __cplusplus
 }

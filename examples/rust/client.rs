@@ -1,14 +1,14 @@
-//! A client's call and the replies to it. The header that is sent offers memory: write chunks for data, and a reply chunk
-//! in case the RPC reply is too long to come inline. The reply's header says how much of each the server filled.
-//! It prints what examples/c/client.c prints.
+//! A client's call and the replies to it. The ledger gives the call its xid, and says when there is credit for another.
+//! The header that is sent offers memory: write chunks for data, and a reply chunk in case the RPC reply is too long to
+//! come inline. The reply's header says how much of each the server filled. It prints what examples/c/client.c prints.
 
-use eoswynnor::{Header, Kind, Refusal, Segment, MAX_HEADER};
+use eoswynnor::{Header, Kind, Ledger, Refusal, Segment, MAX_HEADER};
 
 /// A write chunk of two segments, one of a single segment, and a reply chunk.
-fn offer() -> Header {
+fn offer(xid: u32) -> Header {
     let segment = |handle, length, offset| Segment { handle, length, offset };
     Header {
-        xid: 0x2a,
+        xid,
         credit: 32,
         kind: Kind::Msg,
         reads: vec![],
@@ -39,27 +39,43 @@ fn serve(call: &[u8], first: u32, second: u32) -> Result<Vec<u8>, Refusal> {
     written(&header)
 }
 
-/// What the client does with a reply. After a refusal it must not use what lies in the chunks.
-fn receive(name: &str, sent: &Header, frame: &[u8]) {
-    match Header::read(frame).and_then(|reply| sent.returned(&reply)) {
-        Ok(landed) => {
-            print!("{name} 0");
-            landed.writes.iter().for_each(|bytes| print!(" write {bytes}"));
-            println!(" reply {}", landed.reply);
-        }
-        Err(refusal) => println!("{name} {}", refusal.0),
+/// The number of an answer, as the C calls give it.
+fn number<T>(answer: &Result<T, Refusal>) -> u32 {
+    answer.as_ref().map_or_else(|refusal| refusal.0, |_| 0)
+}
+
+/// What the client does with a reply. After a refusal it must not use what lies in the chunks. The call is answered all
+/// the same, and the reply's credit word is the new grant: the ledger says whether such a call is in flight.
+fn receive(name: &str, ledger: &mut Ledger, sent: &Header, frame: &[u8]) {
+    let reply = match Header::read(frame) {
+        Ok(reply) => reply,
+        Err(refusal) => return println!("{name} {}", refusal.0),
+    };
+    let landed = sent.returned(&reply);
+    print!("{name} {}", number(&landed));
+    if let Ok(landed) = landed {
+        landed.writes.iter().for_each(|bytes| print!(" write {bytes}"));
+        print!(" reply {}", landed.reply);
     }
+    println!(" ledger {}", number(&ledger.reply(reply.xid, reply.credit)));
 }
 
 fn main() -> Result<(), Refusal> {
+    let mut ledger = Ledger::open(0x29);
+    let xid = ledger.send()?;
     // Kept until the reply is there: the reply is compared with it.
-    let sent = offer();
+    let sent = offer(xid);
     let call = written(&sent)?;
     // The RPC call goes right behind the header; here it is left out.
-    println!("call {} bytes", call.len());
+    println!("call {xid} of {} bytes", call.len());
+    // One credit until a reply grants more.
+    println!("another {}", number(&ledger.send()));
 
-    receive("filled", &sent, &serve(&call, 4096, 100)?);
-    // Bytes in the second segment though the first is not full: no server that fills from the front says so.
-    receive("gap", &sent, &serve(&call, 4095, 100)?);
+    receive("filled", &mut ledger, &sent, &serve(&call, 4096, 100)?);
+    // Bytes in the second segment though the first is not full: no server that fills from the front says so. And the call
+    // has its reply: it is not in flight any more.
+    receive("gap", &mut ledger, &sent, &serve(&call, 4095, 100)?);
+
+    println!("another 0 call {}", ledger.send()?);
     Ok(())
 }

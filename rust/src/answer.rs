@@ -2,7 +2,7 @@
 
 use std::fmt;
 
-/// The number of a refusal, 1 to 21 or 26; 8 is reserved and never given.
+/// The number of a refusal, 1 to 21 or 23 to 26; 8 is reserved and never given.
 #[derive(Clone, Copy, Debug, PartialEq, Eq)]
 pub struct Refusal(pub u32);
 
@@ -26,16 +26,16 @@ const TEXTS: [&str; 27] = [
     "a chunk's position overlaps or lies past the base",
     "message above 1,048,576 bytes",
     "output buffer too short",
-    "state not one that can arise, or another buffer length than at the start",
+    "state or ledger not one that can arise, or another buffer length than at the start",
     "piece longer than what is still to be pulled",
     "message asked for before all bytes are in",
     "bad argument: credit limit 0, a size out of rule, an answer number above 21",
     "a header to be written is longer than 1,024 bytes",
-    // 22 to 25: no call answers these.
+    // 22: no call answers it.
     NO_NUMBER,
-    NO_NUMBER,
-    NO_NUMBER,
-    NO_NUMBER,
+    "the calls in flight reach or pass the grant or 32",
+    "a reply's xid is not in flight",
+    "a reply's grant is 0",
     "a reply that cannot answer the header that was sent",
 ];
 

@@ -2,7 +2,8 @@
 //! other numbers, and the order of its checks, are those of the C header.
 //!
 //! Borrowing keeps what the C header asks of a caller: slices are valid and never null, lent slices do not overlap, and
-//! an [`Assembly`] holds its buffer and its state, so that nobody else changes either between two calls.
+//! an [`Assembly`] holds its buffer and its state, and a [`Ledger`] its record, so that nobody else changes them between
+//! two calls.
 
 pub mod ffi;
 
@@ -12,6 +13,8 @@ mod answer;
 mod assembly;
 #[cfg(feature = "link")]
 mod header;
+#[cfg(feature = "link")]
+mod ledger;
 #[cfg(feature = "link")]
 mod reply;
 #[cfg(feature = "link")]
@@ -24,6 +27,7 @@ pub use {
     answer::Refusal,
     assembly::{Assembly, MAX_GOES, MAX_MESSAGE},
     header::{payload, Header, Kind, ReadSegment, Segment, MAX_HEADER},
+    ledger::{Ledger, MAX_IN_FLIGHT},
     reply::{error_reply, grant, MAX_REPLY},
     returned::Landed,
     setup::{Agreement, Setup, SETUP_BYTES},

@@ -44,8 +44,11 @@ fn a_refusal_has_its_text() {
     assert_eq!(Refusal(8).to_string(), "reserved: never given");
     assert_eq!(Refusal(14).to_string(), "a chunk's position overlaps or lies past the base");
     assert_eq!(Refusal(21).to_string(), "a header to be written is longer than 1,024 bytes");
+    assert_eq!(Refusal(23).to_string(), "the calls in flight reach or pass the grant or 32");
+    assert_eq!(Refusal(24).to_string(), "a reply's xid is not in flight");
+    assert_eq!(Refusal(25).to_string(), "a reply's grant is 0");
     assert_eq!(Refusal(26).to_string(), "a reply that cannot answer the header that was sent");
-    for number in [22, 23, 24, 25, 27] {
+    for number in [22, 27] {
         assert_eq!(Refusal(number).to_string(), "no answer number");
     }
 }

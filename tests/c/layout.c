@@ -65,3 +65,14 @@ BY_VALUE(eos_piece_answer, eos_take_piece(0, 0, 0, 0, 0));
 SIZE(eos_landed, 40);
 AT(eos_landed, writes, 0);
 AT(eos_landed, reply, 32);
+
+SIZE(eos_ledger, 140);
+AT(eos_ledger, xids, 0);
+AT(eos_ledger, count, 128);
+AT(eos_ledger, grant, 132);
+AT(eos_ledger, last, 136);
+
+SIZE(eos_send_answer, 8);
+AT(eos_send_answer, number, 0);
+AT(eos_send_answer, xid, 4);
+BY_VALUE(eos_send_answer, eos_ledger_send(0));
