@@ -1,19 +1,18 @@
 -- After any operations from an opening: each answer is what the history says, and the ledger holds what was sent and not answered.
 -- Assumes nothing.
 use mathlib.Core.Path.{_≡_, refl, sym, ap, subst, _∙_}
-use mathlib.Core.Bool.{Bool, true, false, cond, not, _||_, false≢true, true≢false}
-use mathlib.Core.List.{List, [], _∷_, _++_, append-assoc, append-nil}
+use mathlib.Core.Bool.{Bool, true, false, cond, not, _||_, false≢true}
+use mathlib.Core.List.{List, [], _∷_, _++_, append-nil}
 use Prim.Native.Nat.{ℕ, zero, suc, _+_, _-_, _%_, _≤_, _<_}
 use native.Mathlib.Omega.{arith}
-use lib.ListN.{length, take, replicate, length-append}
+use lib.ListN.{length, replicate, length-append}
 use lib.Seq.{take-append-seam, append-snoc}
 use lib.Dec.{eqb, leb, ltb}
-use borrow.Author.Tests.{eqb-true, eqb-false, eq-eqb, ne-eqb, lt-ltb, le-ltb, ltb-true, leb-false}
+use borrow.Author.Tests.{eqb-true, eqb-false, eq-eqb, ne-eqb, lt-ltb, le-ltb, leb-false}
 use Rattle.answers.proofs.Checks.{neither}
-use Rattle.ledger.specs.Ledger.{maxInFlight, inFlight, padded, ledgerOf, openAnswer, isIn, anyTwice, unfit, nextXid, spent, sendNumber, sendAnswer, sendLedger, replyNumber, without, replyLedger}
+use Rattle.ledger.specs.Ledger.{maxInFlight, inFlight, ledgerOf, openAnswer, isIn, anyTwice, unfit, nextXid, spent, sendNumber, sendAnswer, sendLedger, replyNumber, without, replyLedger}
 use Rattle.ledger.specs.History.{Operation, sending, replying, ledgerBehind, Entry, sendGot, replyGot, entryOf, ledgerAfter, history, sentIn, answeredIn, grantIn, lastIn, times, unanswered, unansweredCalls, spentIn, NextXid, SendSaid, Said, AllSaid, numbersIn, less, Accounted}
 use Rattle.ledger.specs.declared.Ledger.{Ledger}
-use Rattle.ledger.specs.declared.SendAnswer.{SendAnswer}
 use Rattle.ledger.proofs.Xids.{length-without, once-without, once-end}
 use Rattle.ledger.proofs.Searching.{finds, finds-free}
 

@@ -1,13 +1,13 @@
 -- What a loop along the xids knows before place i, and what it changes there.
 -- Assumes nothing.
 use mathlib.Core.Path.{_≡_, refl, sym, ap, _∙_}
-use mathlib.Core.Bool.{Bool, true, false, cond, _&&_, _||_}
+use mathlib.Core.Bool.{true, false, cond, _&&_, _||_}
 use mathlib.Core.List.{List, [], _∷_, _++_, append-assoc, append-nil}
 use native.Mathlib.Numerals.{add-one}
 use native.Mathlib.Omega.{arith}
 use Prim.Native.Nat.{ℕ, suc, _+_, _-_, _≤_, _<_}
 use lib.ListN.{length, take, drop, getD, set, replicate, take-append-drop, length-append, length-drop, length-replicate, drop-of-length-le, replicate-append-replicate}
-use lib.Seq.{drop-cons, drop-length, length-take-le, set-at, take-suc, append-snoc, getD-drop, drop-drop, take-take, take-at, drop-at, take-add, take-append-add, getD-append-add, take-suc-set, take-all}
+use lib.Seq.{drop-cons, drop-length, length-take-le, set-at, take-suc, append-snoc, getD-drop, take-take, take-at, drop-at, take-add, take-append-add, getD-append-add, take-suc-set, take-all}
 use lib.Dec.{eqb, ltb}
 use borrow.Author.Tests.{eq-eqb, ne-eqb, le-ltb, lt-ltb}
 use Rattle.ledger.specs.Ledger.{maxInFlight, padded, isIn, anyTwice}

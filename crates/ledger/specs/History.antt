@@ -5,7 +5,7 @@ use mathlib.Core.Bool.{Bool, true, false, cond, _||_}
 use mathlib.Core.List.{List, [], _∷_, _++_}
 use lib.ListN.{length}
 use lib.Dec.{eqb, leb, ltb}
-use Rattle.answers.specs.Answers.{check, unlessRefused}
+use Rattle.answers.specs.Answers.{unlessRefused}
 use Rattle.ledger.specs.Ledger.{maxInFlight, inFlight, ledgerOf, isIn, without, sendAnswer, sendLedger, replyNumber, replyLedger}
 use Rattle.ledger.specs.declared.Ledger.{Ledger}
 use Rattle.ledger.specs.declared.SendAnswer.{SendAnswer}

@@ -2,10 +2,10 @@
 use mathlib.Core.Path.{_≡_, refl, sym, _∙_}
 use Prim.Native.Nat.{_+_, _≤_, _-_}
 use native.Mathlib.Omega.{arith}
-use lib.ListN.{length, take, drop, getD}
+use lib.ListN.{length, drop}
 use denote.Ref.{now}
 use borrow.Author.Needs.{needs}
-use Rattle.ledger.specs.Ledger.{isIn, anyTwice}
+use Rattle.ledger.specs.Ledger.{anyTwice}
 use Rattle.ledger.proofs.Xids.{rising-once}
 use Rattle.ledger.proofs.Scans.{twice-here, twice-next, twice-none, rest-is}
 use Rattle.ledger.proofs.any_twice.Statement.{statement}
