@@ -35,7 +35,8 @@ pub const CHUNK_OVERLAPS: u32 = 14;
 pub const MESSAGE_LONG: u32 = 15;
 // "output buffer too short"
 pub const BUFFER_SHORT: u32 = 16;
-// "state not one that can arise, or another buffer length than at the start"
+// "state not one that can arise, or another buffer length than at the start"; of order 5: "A ledger with more in flight, one xid twice
+// or grant 0"
 pub const STATE_UNFIT: u32 = 17;
 // "piece longer than what is still to be pulled"
 pub const PIECE_LONG: u32 = 18;

@@ -1,17 +1,17 @@
 -- The tests that definitions and code make are the conditions of order 5, said by places.
 -- Assumes nothing.
-use mathlib.Core.Path.{_≡_, refl, sym, ap, _∙_}
+use mathlib.Core.Path.{_≡_, refl, sym, _∙_}
 use mathlib.Core.Bool.{Bool, true, false, not, false≢true, true≢false, or-true}
 use mathlib.Core.List.{List, [], _∷_, _++_}
 use Prim.Native.Nat.{ℕ, zero, suc, _+_, _%_, _<_}
 use native.Mathlib.Omega.{arith}
 use lib.ListN.{length, getD}
 use lib.Dec.{eqb, leb, ltb}
-use borrow.Author.Tests.{eqb-true, eq-eqb, ne-eqb, leb-true, leb-false, le-leb, ltb-true, lt-ltb, not-true}
+use borrow.Author.Tests.{eqb-true, eqb-false, eq-eqb, ne-eqb, leb-true, leb-false, le-leb, ltb-true, lt-ltb, not-true}
 use Rattle.answers.specs.Answers.{check}
 use Rattle.answers.proofs.Checks.{neither, check-passed}
-use Rattle.ledger.specs.Ledger.{maxInFlight, inFlight, ledgerOf, isIn, anyTwice, unfit, xidAfter, firstFree, nextXid, spent, sendNumber, sendAnswer, sendLedger, replyNumber, without, replyLedger}
-use Rattle.ledger.specs.Conditions.{In, Twice, Unfit, more-in-flight, one-twice, no-grant, Spent, reach-grant, reach-room, Next, SameCalls}
+use Rattle.ledger.specs.Ledger.{maxInFlight, inFlight, ledgerOf, isIn, anyTwice, unfit, xidAfter, firstFree, nextXid, spent, sendNumber, sendAnswer, sendLedger, replyNumber, replyLedger}
+use Rattle.ledger.specs.Conditions.{In, Twice, Unfit, more-in-flight, one-twice, no-grant, Spent, reach-grant, reach-room, Next, SendGets, send-unfit, send-spent, send-taken, ReplyGets, reply-unfit, reply-no-grant, reply-unknown, reply-taken, SameCalls}
 use Rattle.ledger.specs.declared.Ledger.{Ledger}
 use Rattle.ledger.proofs.Searching.{Found, finds, finds-free}
 use Rattle.ledger.proofs.Steps.{all-in-flight, send-kept, reply-kept}
@@ -79,12 +79,8 @@ is-unfit l (more-in-flight h) = rw (lt-ltb maxInFlight (l .count) h)
 is-unfit l (one-twice t) = rw (at-twice (inFlight l) t, or-true (ltb maxInFlight (l .count)))
 is-unfit l (no-grant e) = rw (eq-eqb (l .grant) 0 e, or-true (anyTwice (inFlight l)), or-true (ltb maxInFlight (l .count)))
 
-fit-is : (l : Ledger) → (Unfit l → ⊥) → unfit l ≡ false
-fit-is l d = by-test (unfit l) refl
-  where
-    by-test : (c : Bool) → unfit l ≡ c → unfit l ≡ false
-    by-test true e = absurd (d (unfit-is l e))
-    by-test false e = e
+fit-not : (l : Ledger) → unfit l ≡ false → Unfit l → ⊥
+fit-not l e u = true≢false (sym (is-unfit l u) ∙ e)
 
 -- "the calls in flight reach or pass the grant or 32"
 spent-is : (l : Ledger) → spent l ≡ true → Spent l
@@ -101,60 +97,38 @@ unfolding spent
 is-spent l (reach-grant h) = rw (le-leb (l .grant) (l .count) h)
 is-spent l (reach-room h) = rw (le-leb maxInFlight (l .count) h, or-true (leb (l .grant) (l .count)))
 
-not-spent-is : (l : Ledger) → (Spent l → ⊥) → spent l ≡ false
-not-spent-is l d = by-test (spent l) refl
-  where
-    by-test : (c : Bool) → spent l ≡ c → spent l ≡ false
-    by-test true e = absurd (d (spent-is l e))
-    by-test false e = e
-
-absent-is : (x : ℕ) (xs : List ℕ) → (In x xs → ⊥) → isIn x xs ≡ false
-absent-is x xs d = by-test (isIn x xs) refl
-  where
-    by-test : (c : Bool) → isIn x xs ≡ c → isIn x xs ≡ false
-    by-test true e = absurd (d (in-at x xs e))
-    by-test false e = e
+free-not : (l : Ledger) → spent l ≡ false → Spent l → ⊥
+free-not l e s = true≢false (sym (is-spent l s) ∙ e)
 
 -- The number of a send, and of a reply: the first condition that holds.
-module _ (l : Ledger) where
-  pub send-17 : Unfit l → sendNumber l ≡ 17
-  unfolding sendNumber
-  send-17 u = rw (is-unfit l u)
+pub send-gets : (l : Ledger) → SendGets l (sendNumber l)
+unfolding sendNumber
+send-gets l = by-test (unfit l) refl (spent l) refl
+  where
+    by-test : (a : Bool) → unfit l ≡ a → (b : Bool) → spent l ≡ b → SendGets l (check (not (unfit l)) 17 (check (not (spent l)) 23 0))
+    by-test true p b q = send-unfit (unfit-is l p) (rw p)
+    by-test false p true q = send-spent (fit-not l p) (spent-is l q) (rw (p, q))
+    by-test false p false q = send-taken (fit-not l p) (free-not l q) (rw (p, q))
 
-  pub send-23 : (Unfit l → ⊥) → Spent l → sendNumber l ≡ 23
-  unfolding sendNumber
-  send-23 d s = rw (fit-is l d, is-spent l s)
-
-  pub send-0 : (Unfit l → ⊥) → (Spent l → ⊥) → sendNumber l ≡ 0
-  unfolding sendNumber
-  send-0 d s = rw (fit-is l d, not-spent-is l s)
-
-  module _ (xid grant : ℕ) where
-    pub reply-17 : Unfit l → replyNumber l xid grant ≡ 17
-    unfolding replyNumber
-    reply-17 u = rw (is-unfit l u)
-
-    pub reply-25 : (Unfit l → ⊥) → grant ≡ 0 → replyNumber l xid grant ≡ 25
-    unfolding replyNumber
-    reply-25 d e = rw (fit-is l d, eq-eqb grant 0 e)
-
-    pub reply-24 : (Unfit l → ⊥) → (grant ≡ 0 → ⊥) → (In xid (inFlight l) → ⊥) → replyNumber l xid grant ≡ 24
-    unfolding replyNumber
-    reply-24 d g f = rw (fit-is l d, ne-eqb grant 0 g, absent-is xid (inFlight l) f)
-
-    pub reply-0 : (Unfit l → ⊥) → (grant ≡ 0 → ⊥) → In xid (inFlight l) → replyNumber l xid grant ≡ 0
-    unfolding replyNumber
-    reply-0 d g i = rw (fit-is l d, ne-eqb grant 0 g, at-in xid (inFlight l) i)
+pub reply-gets : (l : Ledger) (xid grant : ℕ) → ReplyGets l xid grant (replyNumber l xid grant)
+unfolding replyNumber
+reply-gets l xid grant = by-test (unfit l) refl (eqb grant 0) refl (isIn xid (inFlight l)) refl
+  where
+    by-test : (a : Bool) → unfit l ≡ a → (b : Bool) → eqb grant 0 ≡ b → (c : Bool) → isIn xid (inFlight l) ≡ c → ReplyGets l xid grant (check (not (unfit l)) 17 (check (not (eqb grant 0)) 25 (check (isIn xid (inFlight l)) 24 0)))
+    by-test true p b q c r = reply-unfit (unfit-is l p) (rw p)
+    by-test false p true q c r = reply-no-grant (fit-not l p) (eqb-true grant 0 q) (rw (p, q))
+    by-test false p false q false r = reply-unknown (fit-not l p) (eqb-false grant 0 q) (not-in xid (inFlight l) r) (rw (p, q, r))
+    by-test false p false q true r = reply-taken (fit-not l p) (eqb-false grant 0 q) (in-at xid (inFlight l) r) (rw (p, q, r))
 
 -- What is accepted.
-accepts : (l : Ledger) → sendNumber l ≡ 0 → (unfit l ≡ false) × (spent l ≡ false)
+pub accepts : (l : Ledger) → sendNumber l ≡ 0 → (unfit l ≡ false) × (spent l ≡ false)
 unfolding sendNumber
 accepts l e =
     let f = check-passed (not (unfit l)) 17 (check (not (spent l)) 23 0) (omega arith) e in
     let g = check-passed (not (spent l)) 23 0 (omega arith) (f .1) in
     (not-true (unfit l) (f .0), not-true (spent l) (g .0))
 
-below : (l : Ledger) → spent l ≡ false → l .count < maxInFlight
+pub below : (l : Ledger) → spent l ≡ false → l .count < maxInFlight
 unfolding spent
 below l e = leb-false maxInFlight (l .count) (neither (leb (l .grant) (l .count)) (leb maxInFlight (l .count)) e .1)
 
@@ -168,7 +142,7 @@ next-is l long e =
     let most = f .most in
     rw e (record {
       passed = f .passed;
-      few = most;
+      within = most;
       most = omega arith;
       is = f .is;
       over = λ k h. in-at ((l .last + 1 + k) % 4294967296) (inFlight l) (f .over k h);
@@ -179,16 +153,6 @@ next-is l long e =
 pub sent-ledger : (l : Ledger) → sendNumber l ≡ 0 → sendLedger l ≡ ledgerOf (inFlight l ++ sendAnswer l .xid ∷ []) (l .grant) (sendAnswer l .xid)
 unfolding sendLedger sendAnswer
 sent-ledger l e = rw e
-
--- A call that is answered leaves, those behind it close the gap, and the grant is set.
-gap-closes : (x : ℕ) (xs ys : List ℕ) → isIn x xs ≡ false → without x (xs ++ x ∷ ys) ≡ xs ++ ys
-unfolding isIn without
-gap-closes x [] ys e = rw (eq-eqb x x refl)
-gap-closes x (z ∷ xs) ys e = let f = neither (eqb x z) (isIn x xs) e in rw (f .0) (ap (λ (zs : List ℕ). z ∷ zs) (gap-closes x xs ys (f .1)))
-
-pub replied-ledger : (l : Ledger) (xid grant : ℕ) → replyNumber l xid grant ≡ 0 → (xs ys : List ℕ) → inFlight l ≡ xs ++ xid ∷ ys → (In xid xs → ⊥) → replyLedger l xid grant ≡ ledgerOf (xs ++ ys) grant (l .last)
-unfolding replyLedger
-replied-ledger l xid grant e xs ys split d = rw (e, split, gap-closes xid xs ys (absent-is xid xs d))
 
 -- "places behind them are ignored"
 module _ (l k : Ledger) (s : SameCalls l k) where

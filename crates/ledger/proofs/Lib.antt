@@ -4,3 +4,4 @@ pub mod Searching
 pub mod Steps
 pub mod History
 pub mod Conditions
+pub mod Places

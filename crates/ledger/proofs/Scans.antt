@@ -1,7 +1,7 @@
 -- What a loop along the xids knows before place i, and what it changes there.
 -- Assumes nothing.
 use mathlib.Core.Path.{_≡_, refl, sym, ap, _∙_}
-use mathlib.Core.Bool.{true, false, cond, _&&_, _||_}
+use mathlib.Core.Bool.{Bool, true, false, cond, _&&_, _||_, and-true}
 use mathlib.Core.List.{List, [], _∷_, _++_, append-assoc, append-nil}
 use native.Mathlib.Numerals.{add-one}
 use native.Mathlib.Omega.{arith}
@@ -45,19 +45,16 @@ pub twice-none : (xs : List ℕ) (i : ℕ) → length xs ≤ i → anyTwice xs �
 unfolding anyTwice
 twice-none xs i e so = sym (so ∙ rw (drop-of-length-le xs {i = i} e))
 
--- Whether they rise, place k being the one before that which is looked at.
-module _ (xs : List ℕ) (k : ℕ) (h : k + 1 < length xs) (so : rising xs ≡ rising (drop k xs)) where
-  rising-step : rising xs ≡ (ltb (getD xs k 0) (getD xs (k + 1) 0) && rising (drop (k + 1) xs))
-  unfolding rising
-  rising-step =
-      let behind : drop (suc k) xs ≡ getD xs (suc k) 0 ∷ drop (suc (suc k)) xs = drop-cons xs (suc k) 0 (omega arith) in
-      so ∙ rw (add-one, drop-cons xs k 0 (omega arith), behind)
+-- Whether they rise: as far as place k, and from there on.
+together : (a b c : Bool) → (a && (b && c)) ≡ ((a && b) && c)
+together true b c = refl
+together false b c = refl
 
-  pub falls-here : getD xs (k + 1) 0 ≤ getD xs k 0 → false ≡ rising xs
-  falls-here e = sym (rising-step ∙ rw (le-ltb (getD xs k 0) (getD xs (k + 1) 0) e))
-
-  pub rises-here : getD xs k 0 < getD xs (k + 1) 0 → rising xs ≡ rising (drop (k + 1) xs)
-  rises-here e = rising-step ∙ rw (lt-ltb (getD xs k 0) (getD xs (k + 1) 0) e)
+pub rising-next : (xs : List ℕ) (k : ℕ) (so : Bool) → k + 1 < length xs → rising xs ≡ (so && rising (drop k xs)) → rising xs ≡ ((so && ltb (getD xs k 0) (getD xs (k + 1) 0)) && rising (drop (k + 1) xs))
+unfolding rising
+rising-next xs k so h e =
+    let behind : drop (suc k) xs ≡ getD xs (suc k) 0 ∷ drop (suc (suc k)) xs = drop-cons xs (suc k) 0 (omega arith) in
+    e ∙ rw (add-one, drop-cons xs k 0 (omega arith), behind) (together so (ltb (getD xs k 0) (getD xs (suc k) 0)) (rising (getD xs (suc k) 0 ∷ drop (suc (suc k)) xs)))
 
 short-rises : (xs : List ℕ) → length xs ≤ 1 → true ≡ rising xs
 unfolding rising
@@ -65,8 +62,8 @@ short-rises [] h = refl
 short-rises (x ∷ []) h = refl
 short-rises (x ∷ y ∷ ys) h = absurd (omega arith)
 
-pub rising-end : (xs : List ℕ) (k : ℕ) → length xs ≤ k + 1 → rising xs ≡ rising (drop k xs) → true ≡ rising xs
-rising-end xs k h so = let few = length-drop k xs in short-rises (drop k xs) (omega arith) ∙ sym so
+pub rising-end : (xs : List ℕ) (k : ℕ) (so : Bool) → length xs ≤ k + 1 → rising xs ≡ (so && rising (drop k xs)) → so ≡ rising xs
+rising-end xs k so h e = let few = length-drop k xs in let short = short-rises (drop k xs) (omega arith) in sym (e ∙ rw (← short) (and-true so))
 
 -- Where x stands.
 module _ (x : ℕ) (xs : List ℕ) (i : ℕ) (h : i < length xs) (so : placeOf x xs ≡ i + placeOf x (drop i xs)) where

@@ -47,7 +47,7 @@ unfit l = ltb maxInFlight (l .count) || (anyTwice (inFlight l) || eqb (l .grant)
 abbrev pub xidAfter : ℕ → ℕ
 xidAfter x = (x + 1) % 4294967296
 
--- "passing over xids still in flight": from x on, the first xid that is not in the list, if at most n are passed over.
+-- "passing over xids still in flight": from x on, the first xid that is not in the list, if no more than n are passed over; else the one behind those n.
 unfoldable pub firstFree : ℕ → ℕ → List ℕ → ℕ
 firstFree zero x xs = x
 firstFree (suc n) x xs = cond (isIn x xs) (firstFree n (xidAfter x) xs) x
@@ -60,7 +60,7 @@ nextXid l = firstFree (l .count) (xidAfter (l .last)) (inFlight l)
 unfoldable pub spent : Ledger → Bool
 spent l = leb (l .grant) (l .count) || leb maxInFlight (l .count)
 
--- "it is refused with 23 exactly if the calls in flight reach or pass the grant or 32"
+-- "gets 17 first"; "it is refused with 23 exactly if the calls in flight reach or pass the grant or 32"
 unfoldable pub sendNumber : Ledger → ℕ
 sendNumber l = check (not (unfit l)) 17 (check (not (spent l)) 23 0)
 
@@ -72,7 +72,7 @@ sendAnswer l = record { number = sendNumber l; xid = unlessRefused (sendNumber l
 unfoldable pub sendLedger : Ledger → Ledger
 sendLedger l = unlessRefused (sendNumber l) (ledgerOf (inFlight l ++ nextXid l ∷ []) (l .grant) (nextXid l)) l
 
--- "A reply names an xid and a grant: 25 if the grant is 0, then 24 if the xid is not in flight"
+-- "gets 17 first"; "A reply names an xid and a grant: 25 if the grant is 0, then 24 if the xid is not in flight"
 unfoldable pub replyNumber : Ledger → ℕ → ℕ → ℕ
 replyNumber l xid grant =
     check (not (unfit l)) 17 (check (not (eqb grant 0)) 25 (check (isIn xid (inFlight l)) 24 0))

@@ -1,16 +1,18 @@
 // A ledger of credits: the calls in flight, the grant, the last xid given. Public: MAX_IN_FLIGHT, Ledger, OpenAnswer, open_ledger,
 // SendAnswer, send, reply.
 ghost use mathlib.Core.Path.{_≡_};
+ghost use mathlib.Core.Bool.{_&&_};
 ghost use mathlib.Core.List.{[], _∷_, _++_};
 ghost use Prim.Native.Nat.{ℕ, _+_, _≤_, _<_};
 ghost use lib.ListN.{length, take, drop};
+ghost use lib.Dec.{ltb};
 ghost use Rattle.ledger.specs.Ledger.{padded, isIn, anyTwice, unfit, xidAfter, firstFree, openAnswer, sendAnswer, sendLedger, replyNumber, replyLedger};
 ghost use Rattle.ledger.specs.Internal.Search.{rising, placeOf};
 
 // "Room for 32 calls in flight"
 pub const MAX_IN_FLIGHT: usize = 32;
 
-// The xids of the calls in flight in sending order, how many they are, how many there may be, and the last xid given.
+// The xids of the calls in flight in sending order, how many they are, the grant, and the last xid given.
 #[repr(C)]
 pub struct Ledger {
     pub xids: [u32; 32],
@@ -70,23 +72,33 @@ fn holds(list: &[u32], xid: u32) -> bool
     false
 }
 
+// Whether xids that rose so far rise by one more.
+fn rises(so_far: bool, one: u32, two: u32) -> bool
+    ensures { λ r. ⌜ r ≡ («so_far» && ltb one two) ⌝ }
+{
+    if two <= one {
+        return false;
+    }
+    so_far
+}
+
 // Whether each xid is above the one before it.
 fn is_rising(list: &[u32]) -> bool
     ensures { λ r. ⌜ r ≡ rising (now (list .entry)) ⌝ }
 {
+    // To the end in any case, so that several are compared at once.
+    let mut rise = true;
     for i in 1..list.len() {
-        if list[i] <= list[i - 1] {
-            return false;
-        }
+        rise = rises(rise, list[i - 1], list[i]);
     }
-    true
+    rise
 }
 
 // Whether one xid stands in a list twice.
 fn any_twice(list: &[u32]) -> bool
     ensures { λ r. ⌜ r ≡ anyTwice (now (list .entry)) ⌝ }
 {
-    // Xids in sending order rise unless they have just wrapped: one comparison each.
+    // Xids in sending order rise, unless one from before a wrap is still in flight: one comparison each.
     if is_rising(list) {
         return false;
     }

@@ -54,11 +54,12 @@ use Rattle.returned.specs.Filled.{filled, Fills}
 use Rattle.returned.proofs.Fills as fills
 use Rattle.returned.proofs.Unused as unused
 use Rattle.returned.proofs.Lent as lent
-use Rattle.ledger.specs.Ledger.{inFlight, ledgerOf, openAnswer, sendNumber, sendAnswer, sendLedger, replyNumber, replyLedger}
-use Rattle.ledger.specs.Conditions.{In, Unfit, Spent, Next, SameCalls}
+use Rattle.ledger.specs.Ledger.{openAnswer, sendNumber, sendAnswer, sendLedger, replyNumber, replyLedger}
+use Rattle.ledger.specs.Conditions.{Next, SendGets, ReplyGets, Joined, Closed, SameCalls}
 use Rattle.ledger.specs.History.{Operation, history, ledgerAfter, Accounted}
 use Rattle.ledger.specs.declared.Ledger.{Ledger}
 use Rattle.ledger.proofs.Conditions as ledger-conditions
+use Rattle.ledger.proofs.Places as ledger-places
 use Rattle.ledger.proofs.History as ledger-history
 use Rattle.c_header.specs.Part.{partOf}
 use Rattle.c_header.proofs.RoundTrip as c-header
@@ -407,32 +408,25 @@ pub order-5-opened : (last : ℕ) → openAnswer last ≡ record { ledger = reco
 unfolding openAnswer
 order-5-opened last = refl
 
--- "A ledger with more in flight, one xid twice or grant 0 gets 17 first."
-pub order-5-unfit : (l : Ledger) → Unfit l → (sendNumber l ≡ 17) × ((xid grant : ℕ) → replyNumber l xid grant ≡ 17)
-order-5-unfit = λ l u. (ledger-conditions.send-17 l u, λ xid grant. ledger-conditions.reply-17 l xid grant u)
+-- "A ledger with more in flight, one xid twice or grant 0 gets 17 first."; "it is refused with 23 exactly if the calls in flight reach or pass the grant or 32"
+pub order-5-send : (l : Ledger) → SendGets l (sendNumber l)
+order-5-send = ledger-conditions.send-gets
 
--- "it is refused with 23 exactly if the calls in flight reach or pass the grant or 32"
-pub order-5-send : (l : Ledger) → (Unfit l → ⊥) → (Spent l → sendNumber l ≡ 23) × ((Spent l → ⊥) → sendNumber l ≡ 0)
-order-5-send = λ l d. (ledger-conditions.send-23 l d, ledger-conditions.send-0 l d)
-
--- "25 if the grant is 0, then 24 if the xid is not in flight"
-pub order-5-reply : (l : Ledger) (xid grant : ℕ) → (Unfit l → ⊥) →
-    (grant ≡ 0 → replyNumber l xid grant ≡ 25)
-    × ((grant ≡ 0 → ⊥) → (In xid (inFlight l) → ⊥) → replyNumber l xid grant ≡ 24)
-    × ((grant ≡ 0 → ⊥) → In xid (inFlight l) → replyNumber l xid grant ≡ 0)
-order-5-reply = λ l xid grant d. (ledger-conditions.reply-25 l xid grant d, ledger-conditions.reply-24 l xid grant d, ledger-conditions.reply-0 l xid grant d)
+-- "A reply names an xid and a grant: 25 if the grant is 0, then 24 if the xid is not in flight"
+pub order-5-reply : (l : Ledger) (xid grant : ℕ) → ReplyGets l xid grant (replyNumber l xid grant)
+order-5-reply = ledger-conditions.reply-gets
 
 -- "Sending takes the next xid, one more than the last, wrapping to 0 behind the largest, and passing over xids still in flight": at most as many as are in flight, so at most 31.
 pub order-5-next : (l : Ledger) → length (l .xids) ≡ 32 → sendNumber l ≡ 0 → Next l (sendAnswer l .xid)
 order-5-next = ledger-conditions.next-is
 
 -- "Xids stand in sending order .. places behind them are .. zero after an accepted operation"
-pub order-5-sent : (l : Ledger) → sendNumber l ≡ 0 → sendLedger l ≡ ledgerOf (inFlight l ++ sendAnswer l .xid ∷ []) (l .grant) (sendAnswer l .xid)
-order-5-sent = ledger-conditions.sent-ledger
+pub order-5-sent : (l : Ledger) → length (l .xids) ≡ 32 → sendNumber l ≡ 0 → Joined l (sendLedger l) (sendAnswer l .xid)
+order-5-sent = ledger-places.send-joins
 
 -- "a leaving one closes its gap"; "else the call leaves and the grant is set, above 32 too. A lower grant takes no call back."
-pub order-5-replied : (l : Ledger) (xid grant : ℕ) → replyNumber l xid grant ≡ 0 → (xs ys : List ℕ) → inFlight l ≡ xs ++ xid ∷ ys → (In xid xs → ⊥) → replyLedger l xid grant ≡ ledgerOf (xs ++ ys) grant (l .last)
-order-5-replied = ledger-conditions.replied-ledger
+pub order-5-replied : (l : Ledger) (xid grant : ℕ) → length (l .xids) ≡ 32 → replyNumber l xid grant ≡ 0 → Closed l (replyLedger l xid grant) xid grant
+order-5-replied = ledger-places.reply-leaves
 
 -- "places behind them are ignored": by the checks, and by what an accepted operation leaves.
 pub order-5-ignored : (l k : Ledger) → SameCalls l k →

@@ -287,7 +287,7 @@ never-eight = record {
   in-replying = other-reply-number;
   in-returning = other-returned;
   in-returning-words = other-returned-words;
-  in-opening = λ last. never;
-  in-sending = other-sent;
-  in-answering = other-answered;
+  in-opening-ledger = λ last. never;
+  in-sending-by-ledger = other-sent;
+  in-replying-to-ledger = other-answered;
 }

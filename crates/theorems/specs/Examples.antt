@@ -36,7 +36,7 @@ use Rattle.layout.specs.Places.{from}
 use Rattle.c_setup.specs.Words.{agreementWords}
 use Rattle.returned.specs.Returned.{returnedAnswer, returnedWordsNumber, returnedWordsPlaces}
 use Rattle.ledger.specs.Ledger.{openAnswer, sendAnswer, sendLedger, replyNumber, replyLedger}
-use Rattle.ledger.specs.History.{Operation, sending, replying, Entry, sendGot, replyGot, history, ledgerAfter}
+use Rattle.ledger.specs.History.{Operation, sending, replying, Event, sendGot, replyGot, history, ledgerAfter}
 use Rattle.ledger.specs.declared.Ledger.{Ledger}
 
 -- What a worked example says.
@@ -94,7 +94,7 @@ pub data Example : Type 0 where
   -- a reply on a ledger, with this xid and this grant, gets this number and leaves this ledger
   ledger-replies : Ledger → ℕ → ℕ → ℕ → Ledger → Example
   -- these operations, from an opening with this last xid, get these answers and leave this ledger
-  ledger-runs : ℕ → List Operation → List Entry → Ledger → Example
+  ledger-runs : ℕ → List Operation → List Event → Ledger → Example
 
 -- The answers to pieces of so many bytes, each over the words that the one before it left.
 unfoldable pub pieceAnswers : List ℕ → ℕ → List ℕ → List PieceAnswer
@@ -136,7 +136,7 @@ Holds (lends sent reply number landed) =
 Holds (ledger-opens last l) = openAnswer last ≡ record { ledger = l; number = 0 }
 Holds (ledger-sends l number xid after) = (sendAnswer l ≡ record { number = number; xid = xid }) × (sendLedger l ≡ after)
 Holds (ledger-replies l xid grant number after) = (replyNumber l xid grant ≡ number) × (replyLedger l xid grant ≡ after)
-Holds (ledger-runs last os entries after) = (history (openAnswer last .ledger) os ≡ entries) × (ledgerAfter (openAnswer last .ledger) os ≡ after)
+Holds (ledger-runs last os events after) = (history (openAnswer last .ledger) os ≡ events) × (ledgerAfter (openAnswer last .ledger) os ≡ after)
 
 -- "C2 Words 2a, 1, 20, 0, 0, 0, 0 (hexadecimal)"
 abbrev pub c2 : List ℕ
@@ -667,10 +667,16 @@ ledgerCases =
     ∷ ledger-sends (ledgerOfCalls (7 ∷ 6 ∷ []) 3 5) 0 8 (ledgerOfCalls (7 ∷ 6 ∷ 8 ∷ []) 3 8)
     ∷ ledger-sends (ledgerOfCalls (from 6 31) 32 5) 0 37 (ledgerOfCalls (from 6 31 ++ 37 ∷ []) 32 37)
     ∷ ledger-sends (ledgerWith (5 ∷ 6 ∷ []) 2 3 6) 0 7 (ledgerOfCalls (5 ∷ 6 ∷ 7 ∷ []) 3 7)
+    ∷ ledger-sends (ledgerWith (from 20 16) 16 17 35) 0 36 (ledgerOfCalls (from 20 17) 17 36)
+    ∷ ledger-sends (ledgerWith [] 0 1 8) 0 9 (ledgerOfCalls (9 ∷ []) 1 9)
+    ∷ ledger-sends (ledgerWith (5 ∷ 6 ∷ 7 ∷ []) 2 3 6) 0 7 (ledgerOfCalls (5 ∷ 6 ∷ 7 ∷ []) 3 7)
     ∷ ledger-sends (ledgerWith (5 ∷ 6 ∷ []) 2 2 6) 23 0 (ledgerWith (5 ∷ 6 ∷ []) 2 2 6)
     ∷ ledger-sends (ledgerWith (7 ∷ 7 ∷ []) 1 2 7) 0 8 (ledgerOfCalls (7 ∷ 8 ∷ []) 2 8)
     ∷ ledger-sends (ledgerWith (7 ∷ 7 ∷ []) 2 3 7) 17 0 (ledgerWith (7 ∷ 7 ∷ []) 2 3 7)
     ∷ ledger-sends (ledgerOfCalls (from 1 31 ++ 1 ∷ []) 40 31) 17 0 (ledgerOfCalls (from 1 31 ++ 1 ∷ []) 40 31)
+    ∷ ledger-sends (ledgerOfCalls (from 1 31 ++ 31 ∷ []) 40 31) 17 0 (ledgerOfCalls (from 1 31 ++ 31 ∷ []) 40 31)
+    ∷ ledger-sends (ledgerWith (from 1 15 ++ 1 ∷ []) 16 17 15) 17 0 (ledgerWith (from 1 15 ++ 1 ∷ []) 16 17 15)
+    ∷ ledger-sends (ledgerWith (0 ∷ 0 ∷ []) 2 3 0) 17 0 (ledgerWith (0 ∷ 0 ∷ []) 2 3 0)
     ∷ ledger-sends (ledgerWith [] 0 0 5) 17 0 (ledgerWith [] 0 0 5)
     ∷ ledger-sends (ledgerWith (from 1 32) 33 40 32) 17 0 (ledgerWith (from 1 32) 33 40 32)
     ∷ ledger-sends (ledgerWith [] 4294967295 40 32) 17 0 (ledgerWith [] 4294967295 40 32)
@@ -683,6 +689,10 @@ ledgerCases =
     ∷ ledger-replies (ledgerOfCalls (7 ∷ []) 1 7) 7 100 0 (ledgerOfCalls [] 100 7)
     ∷ ledger-replies (ledgerOfCalls (7 ∷ []) 1 7) 7 4294967295 0 (ledgerOfCalls [] 4294967295 7)
     ∷ ledger-replies (ledgerWith (5 ∷ 6 ∷ 7 ∷ []) 3 3 7) 6 3 0 (ledgerOfCalls (5 ∷ 7 ∷ []) 3 7)
+    ∷ ledger-replies (ledgerWith (from 20 17) 17 17 36) 28 65536 0 (ledgerOfCalls (from 20 8 ++ from 29 8) 65536 36)
+    ∷ ledger-replies (ledgerWith (9 ∷ []) 1 2 9) 9 2 0 (ledgerOfCalls [] 2 9)
+    ∷ ledger-replies (ledgerOfCalls (from 1 32) 32 32) 0 1 24 (ledgerOfCalls (from 1 32) 32 32)
+    ∷ ledger-replies (ledgerOfCalls (5 ∷ 6 ∷ []) 2 7) 7 2 24 (ledgerOfCalls (5 ∷ 6 ∷ []) 2 7)
     ∷ ledger-replies (ledgerWith (5 ∷ 6 ∷ []) 1 3 7) 6 3 24 (ledgerWith (5 ∷ 6 ∷ []) 1 3 7)
     ∷ ledger-replies (ledgerOfCalls [] 1 41) 0 3 24 (ledgerOfCalls [] 1 41)
     ∷ ledger-replies (ledgerOfCalls (0 ∷ []) 1 0) 0 3 0 (ledgerOfCalls [] 3 0)

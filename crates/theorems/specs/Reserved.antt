@@ -36,6 +36,6 @@ pub record NeverGiven (n : ℕ) : Type 0 where
   pub in-replying : (frame : List ℕ) (number limit room : ℕ) → errorReplyAnswer frame number limit room .number ≡ n → ⊥
   pub in-returning : (sent reply : Header) → returnedAnswer sent reply .number ≡ n → ⊥
   pub in-returning-words : (sent reply : Option Header) → returnedWordsNumber sent reply ≡ n → ⊥
-  pub in-opening : (last : ℕ) → openAnswer last .number ≡ n → ⊥
-  pub in-sending : (l : Ledger) → sendAnswer l .number ≡ n → ⊥
-  pub in-answering : (l : Ledger) (xid grant : ℕ) → replyNumber l xid grant ≡ n → ⊥
+  pub in-opening-ledger : (last : ℕ) → openAnswer last .number ≡ n → ⊥
+  pub in-sending-by-ledger : (l : Ledger) → sendAnswer l .number ≡ n → ⊥
+  pub in-replying-to-ledger : (l : Ledger) (xid grant : ℕ) → replyNumber l xid grant ≡ n → ⊥
