@@ -9,25 +9,9 @@ use Prim.Native.Nat.{ℕ, suc, _+_, _-_, _≤_, _<_}
 use lib.ListN.{length, take, drop, getD, set, replicate, take-append-drop, length-append, length-drop, length-replicate, drop-of-length-le, replicate-append-replicate}
 use lib.Seq.{drop-cons, drop-length, length-take-le, set-at, take-suc, append-snoc, getD-drop, take-take, take-at, drop-at, take-add, take-append-add, getD-append-add, take-suc-set, take-all}
 use lib.Dec.{eqb, ltb}
-use borrow.Author.Tests.{eq-eqb, ne-eqb, le-ltb, lt-ltb}
+use borrow.Author.Tests.{eq-eqb, ne-eqb}
 use Rattle.ledger.specs.Ledger.{maxInFlight, padded, isIn, anyTwice}
 use Rattle.ledger.specs.Internal.Search.{rising, placeOf}
-
--- Whether x is there.
-module _ (x : ℕ) (xs : List ℕ) (i : ℕ) (h : i < length xs) (so : isIn x xs ≡ isIn x (drop i xs)) where
-  in-step : isIn x xs ≡ (eqb x (getD xs i 0) || isIn x (drop (i + 1) xs))
-  unfolding isIn
-  in-step = so ∙ rw (add-one, drop-cons xs i 0 h)
-
-  pub in-here : getD xs i 0 ≡ x → true ≡ isIn x xs
-  in-here e = sym (in-step ∙ rw (eq-eqb x (getD xs i 0) (sym e)))
-
-  pub in-next : (getD xs i 0 ≡ x → ⊥) → isIn x xs ≡ isIn x (drop (i + 1) xs)
-  in-next d = in-step ∙ rw (ne-eqb x (getD xs i 0) (λ q. d (sym q)))
-
-pub in-none : (x : ℕ) (xs : List ℕ) (i : ℕ) → length xs ≤ i → isIn x xs ≡ isIn x (drop i xs) → false ≡ isIn x xs
-unfolding isIn
-in-none x xs i e so = sym (so ∙ rw (drop-of-length-le xs {i = i} e))
 
 -- Whether one is there twice.
 module _ (xs : List ℕ) (i : ℕ) (h : i < length xs) (so : anyTwice xs ≡ anyTwice (drop i xs)) where

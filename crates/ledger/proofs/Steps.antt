@@ -1,6 +1,6 @@
 -- What a send and a reply are, by what they meet.
 -- Assumes nothing.
-use mathlib.Core.Path.{_≡_, refl, sym}
+use mathlib.Core.Path.{_≡_, refl, sym, _∙_}
 use mathlib.Core.Bool.{Bool, true, false, cond, _||_, false≢true, true≢false, or-true, or-false}
 use mathlib.Core.List.{List, [], _∷_, _++_}
 use Prim.Native.Nat.{ℕ, suc, _+_, _-_, _≤_, _<_}
@@ -140,6 +140,13 @@ there x xs h = by-test (isIn x xs) refl
     by-test : (b : Bool) → isIn x xs ≡ b → isIn x xs ≡ true
     by-test true e = e
     by-test false e = let k = place-in x xs false e in absurd (omega arith)
+
+pub place-tells : (x : ℕ) (xs : List ℕ) → ltb (placeOf x xs) (length xs) ≡ isIn x xs
+place-tells x xs = by-test (isIn x xs) refl
+  where
+    by-test : (b : Bool) → isIn x xs ≡ b → ltb (placeOf x xs) (length xs) ≡ isIn x xs
+    by-test true e = lt-ltb (placeOf x xs) (length xs) (place-in x xs true e) ∙ sym e
+    by-test false e = let k = place-in x xs false e in le-ltb (placeOf x xs) (length xs) (omega arith) ∙ sym e
 
 pub leaves-from : (x : ℕ) (xs : List ℕ) → placeOf x xs < length xs → take (placeOf x xs) xs ++ drop (placeOf x xs + 1) xs ≡ without x xs
 unfolding without placeOf

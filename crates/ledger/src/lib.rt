@@ -60,16 +60,23 @@ pub fn open_ledger(last: u32) -> OpenAnswer
     }
 }
 
+// How many xids stand before this one, or all.
+fn place_of(list: &[u32], xid: u32) -> usize
+    ensures { λ r. ⌜ r ≡ placeOf xid (now (list .entry)) ⌝ }
+{
+    for i in 0..list.len() {
+        if list[i] == xid {
+            return i;
+        }
+    }
+    list.len()
+}
+
 // Whether an xid is in a list.
 fn holds(list: &[u32], xid: u32) -> bool
     ensures { λ r. ⌜ r ≡ isIn xid (now (list .entry)) ⌝ }
 {
-    for i in 0..list.len() {
-        if list[i] == xid {
-            return true;
-        }
-    }
-    false
+    place_of(list, xid) < list.len()
 }
 
 // Whether xids that rose so far rise by one more.
@@ -135,18 +142,6 @@ fn next_xid(list: &[u32], last: u32) -> u32
         xid = std::num::wrapping_add_u32(xid, 1);
     }
     xid
-}
-
-// How many xids stand before this one, or all.
-fn place_of(list: &[u32], xid: u32) -> usize
-    ensures { λ r. ⌜ r ≡ placeOf xid (now (list .entry)) ⌝ }
-{
-    for i in 0..list.len() {
-        if list[i] == xid {
-            return i;
-        }
-    }
-    list.len()
 }
 
 // Zeros behind the first n xids.
