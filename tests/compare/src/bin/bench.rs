@@ -2,8 +2,9 @@
 //! copies. `bench --one CALL INPUT N` just makes N calls, for callgrind; CALL is a row's call
 //! behind lib-, plain- or copy-, INPUT the row's input. A fill is all pieces of a 1 MiB message; the
 //! 16 segments of fall16 are those of reads16 with falling positions. An input of send and reply ends
-//! with the number of calls in flight, their xids rising or across the wrap; each call is made on a fresh
-//! copy of the ledger, and the copying is counted whoever makes the call.
+//! with the number of calls in flight, their xids rising or across the wrap; spent8 and unknown8 are
+//! refused. Each call is made on a fresh copy of the ledger, and the copying is counted whoever makes the
+//! call: `plain-copied` makes none.
 //! `bench --quadratic` compares, for send and reply, the plain calls with those that look for an xid
 //! twice pair by pair even where the xids rise: plain-send-quadratic and plain-reply-quadratic.
 
@@ -31,7 +32,7 @@ use std::time::Instant;
 
 const RUNS: usize = 21;
 
-const ROWS: [(&str, &str); 41] = [
+const ROWS: [(&str, &str); 43] = [
     ("read", "c2"),
     ("read", "reads16"),
     ("read", "fall16"),
@@ -69,10 +70,12 @@ const ROWS: [(&str, &str); 41] = [
     ("send", "flight8"),
     ("send", "flight31"),
     ("send", "wrap31"),
+    ("send", "spent8"),
     ("reply", "flight1"),
     ("reply", "flight8"),
     ("reply", "flight31"),
     ("reply", "wrap31"),
+    ("reply", "unknown8"),
 ];
 
 const MESSAGE: usize = 1 << 20;
@@ -84,7 +87,7 @@ const SERVER: Setup = Setup { remote_invalidation: 1, send: 262_144, receive: 30
 
 /// A frame, its header where it has one, the number for an error reply, for the reassembly a frame
 /// to be started and a message to be filled with the length of a piece, a header sent with its reply,
-/// and a ledger.
+/// and a ledger with the xid of a reply.
 struct Input {
     frame: Vec<u8>,
     flat: Header,
@@ -94,6 +97,7 @@ struct Input {
     piece: usize,
     pair: [Header; 2],
     ledger: Ledger,
+    xid: u32,
 }
 
 fn input(name: &str) -> Input {
@@ -138,10 +142,17 @@ fn input(name: &str) -> Input {
     let pair = if name == "full" { full_pair() } else { write1() };
     let in_flight = match (name, name.strip_prefix("flight")) {
         ("wrap31", _) => rising(u32::MAX - 14, 31),
+        ("spent8" | "unknown8", _) => rising(1000, 8),
         (_, Some(count)) => rising(1000, count.parse().expect("a count")),
         _ => vec![],
     };
-    Input { frame, flat: flatten(&header), number, start, filling, piece, pair, ledger: sent(&in_flight) }
+    let mut ledger = sent(&in_flight);
+    if name == "spent8" {
+        ledger.grant = 8;
+    }
+    // The middle one, or one that is not in flight.
+    let xid = if name == "unknown8" { 1 } else { ledger.xids[ledger.count as usize / 2] };
+    Input { frame, flat: flatten(&header), number, start, filling, piece, pair, ledger, xid }
 }
 
 /// A message of 1 MiB, started, with the bytes to be pulled.
@@ -200,7 +211,7 @@ fn repeat<T>(count: u64, mut call: impl FnMut() -> T) {
 
 /// Each maker is lent the same.
 fn calls_of<C: Calls>(maker: &C, call: &str, input: &mut Input, count: u64) {
-    let Input { frame, flat, number, pair: [sent, reply], ledger, .. } = input;
+    let Input { frame, flat, number, pair: [sent, reply], ledger, xid, .. } = input;
     let (mut out, mut length, mut header) = ([0; 1024], 0, Header::ZERO);
     let (mut data, mut setup, mut present) = (C10, Setup::default(), 0);
     let (mut client, mut server) = (CLIENT, SERVER);
@@ -227,18 +238,18 @@ fn calls_of<C: Calls>(maker: &C, call: &str, input: &mut Input, count: u64) {
         "returned" => repeat(count, || {
             maker.returned(black_box(&mut *sent), black_box(&mut *reply), black_box(&mut landed))
         }),
-        "send" => ledger_calls(ledger, count, |ledger, _| maker.ledger_send(ledger)),
-        "reply" => ledger_calls(ledger, count, |ledger, xid| maker.ledger_reply(ledger, xid, black_box(32))),
+        "send" => ledger_calls(ledger, count, |ledger| maker.ledger_send(ledger)),
+        "reply" => ledger_calls(ledger, count, |ledger| maker.ledger_reply(ledger, black_box(*xid), black_box(32))),
         _ => assembly_calls_of(maker, call, input, count),
     }
 }
 
-/// Each call gets a copy of the ledger, and the xid in the middle of those in flight for a reply.
-fn ledger_calls<T>(ledger: &Ledger, count: u64, mut call: impl FnMut(&mut Ledger, u32) -> T) {
-    let (mut copy, xid) = (*ledger, ledger.xids[ledger.count as usize / 2]);
+/// Each call gets a copy of the ledger.
+fn ledger_calls<T>(ledger: &Ledger, count: u64, mut call: impl FnMut(&mut Ledger) -> T) {
+    let mut copy = *ledger;
     repeat(count, || {
         copy = *black_box(ledger);
-        call(black_box(&mut copy), black_box(xid))
+        call(black_box(&mut copy))
     })
 }
 
@@ -277,9 +288,10 @@ fn copies(call: &str, input: &mut Input, count: u64) {
 fn calls(call: &str, input: &mut Input, count: u64) {
     let ledger = &input.ledger;
     match call.split_once('-') {
-        Some(("plain", "send-quadratic")) => ledger_calls(ledger, count, |ledger, _| send_quadratic(ledger)),
+        Some(("plain", "copied")) => ledger_calls(ledger, count, |_| ()),
+        Some(("plain", "send-quadratic")) => ledger_calls(ledger, count, |ledger| send_quadratic(ledger)),
         Some(("plain", "reply-quadratic")) => {
-            ledger_calls(ledger, count, |ledger, xid| reply_quadratic(ledger, xid, black_box(32)))
+            ledger_calls(ledger, count, |ledger| reply_quadratic(ledger, black_box(input.xid), black_box(32)))
         }
         Some(("lib", call)) => calls_of(&Library, call, input, count),
         Some(("plain", call)) => calls_of(&Plain, call, input, count),
