@@ -1,14 +1,14 @@
 -- What a send and a reply are, by what they meet.
 -- Assumes nothing.
-use mathlib.Core.Path.{_≡_, refl, sym, _∙_}
-use mathlib.Core.Bool.{Bool, true, false, cond, _||_, false≢true, true≢false, or-true, or-false}
+use mathlib.Core.Path.{_≡_, refl, sym, subst, _∙_}
+use mathlib.Core.Bool.{Bool, true, false, cond, _||_, false≢true, true≢false, or-true, or-false, not}
 use mathlib.Core.List.{List, [], _∷_, _++_}
 use Prim.Native.Nat.{ℕ, suc, _+_, _-_, _≤_, _<_}
 use native.Mathlib.Nat.{suc-add}
 use native.Mathlib.Omega.{arith}
 use lib.ListN.{length, take, drop, length-append}
 use lib.Seq.{length-take-le}
-use lib.Dec.{eqb, ltb, leb}
+use lib.Dec.{eqb, ltb, leb, T as Holds}
 use borrow.Author.Tests.{eq-eqb, ne-eqb, eqb-false, le-leb, lt-leb, le-ltb, lt-ltb, ltb-false}
 use Rattle.answers.proofs.Checks.{neither, kept}
 use Rattle.ledger.specs.Ledger.{maxInFlight, inFlight, padded, isIn, anyTwice, unfit, xidAfter, firstFree, nextXid, spent, sendNumber, sendAnswer, sendLedger, replyNumber, without, replyLedger}
@@ -62,6 +62,10 @@ not-spent l h k = rw (lt-leb (l .grant) (l .count) h, lt-leb maxInFlight (l .cou
 
 pub all-in-flight : (l : Ledger) → length (l .xids) ≡ maxInFlight → l .count ≤ maxInFlight → length (inFlight l) ≡ l .count
 all-in-flight l long h = length-take-le (l .count) (l .xids) (omega arith)
+
+-- A number that differs from 0, as a branch in the code tells it.
+pub not-zero : (n : ℕ) → Holds (not (eqb n 0)) → n ≡ 0 → ⊥
+not-zero n d e = subst (λ (k : ℕ). Holds (not (eqb k 0))) e d
 
 module _ (l : Ledger) where
   abbrev sent-step : SendStep

@@ -43,7 +43,7 @@ use denote.Triple.Walked.{says, onExit, Stays, stay-ref, stay-dropped, walkOf, A
 use Rattle.ledger.specs.Ledger.{replyNumber, replyLedger}
 use Rattle.ledger.specs.declared.Ledger.{Ledger}
 use Rattle.ledger.specs.declared.ReplyStep.{ReplyStep}
-use Rattle.ledger.proofs.Steps.{reply-kept}
+use Rattle.ledger.proofs.Steps.{not-zero, reply-kept}
 use Rattle.ledger.proofs.Ledger as T
 use Rattle.ledger.proofs.Ledger.Laws as T′
 use Rattle.ledger.proofs.ReplyStep as D
@@ -70,10 +70,6 @@ ledger-is t v is = let r = LL.owed D.the-type D′.the-laws t (v ∷ []) is .0 i
 
 number-fits : (t : ReplyStep) (v : Val) → Is D.the-row t (v ∷ []) → t .number < 2 ^ 32
 number-fits t v is = LL.owed D.the-type D′.the-laws t (v ∷ []) is .1 .0 .1
-
--- a number that differs from 0, as the branch tells it
-not-zero : (n : ℕ) → Holds (not (eqb n 0)) → n ≡ 0 → ⊥
-not-zero n d e = subst (λ (k : ℕ). Holds (not (eqb k 0))) e d
 
 abbrev step-of : Ledger → ℕ → ℕ → ReplyStep
 step-of l y g = record { ledger = replyLedger l y g; number = replyNumber l y g }

@@ -41,7 +41,7 @@ use Rattle.ledger.specs.Ledger.{sendNumber, sendAnswer, sendLedger}
 use Rattle.ledger.specs.declared.Ledger.{Ledger}
 use Rattle.ledger.specs.declared.SendAnswer.{SendAnswer}
 use Rattle.ledger.specs.declared.SendStep.{SendStep}
-use Rattle.ledger.proofs.Steps.{send-kept}
+use Rattle.ledger.proofs.Steps.{not-zero, send-kept}
 use Rattle.ledger.proofs.Ledger as T
 use Rattle.ledger.proofs.Ledger.Laws as T′
 use Rattle.ledger.proofs.SendAnswer as R
@@ -79,10 +79,6 @@ type-of (local τ home ∷ ls) (suc k) = type-of ls k
 
 abbrev ty : ℕ → Ty
 ty k = type-of (code.function .locals) k
-
--- a number that differs from 0, as the branch tells it
-not-zero : (n : ℕ) → Holds (not (eqb n 0)) → n ≡ 0 → ⊥
-not-zero n d e = subst (λ (k : ℕ). Holds (not (eqb k 0))) e d
 
 abbrev step-of : Ledger → SendStep
 step-of l = record { ledger = sendLedger l; answer = sendAnswer l }
