@@ -178,7 +178,7 @@ module _ (l k : Ledger) (s : SameCalls l k) where
 
 -- "A refusal changes nothing."
 pub refused : (l : Ledger) →
-    ((sendNumber l ≡ 0 → ⊥) → (sendAnswer l ≡ record { number = sendNumber l; xid = 0 }) × (sendLedger l ≡ l))
+    ((sendNumber l ≡ 0 → ⊥) → (sendAnswer l .xid ≡ 0) × (sendLedger l ≡ l))
     × ((xid grant : ℕ) → (replyNumber l xid grant ≡ 0 → ⊥) → replyLedger l xid grant ≡ l)
 unfolding sendAnswer
 refused l = (λ d. (rw (ne-eqb (sendNumber l) 0 d), sym (send-kept l d)), λ xid grant d. sym (reply-kept l xid grant d))

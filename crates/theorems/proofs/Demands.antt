@@ -54,7 +54,7 @@ use Rattle.returned.specs.Filled.{filled, Fills}
 use Rattle.returned.proofs.Fills as fills
 use Rattle.returned.proofs.Unused as unused
 use Rattle.returned.proofs.Lent as lent
-use Rattle.ledger.specs.Ledger.{openAnswer, sendNumber, sendAnswer, sendLedger, replyNumber, replyLedger}
+use Rattle.ledger.specs.Ledger.{openAnswer, sendAnswer, sendLedger, replyNumber, replyLedger}
 use Rattle.ledger.specs.Conditions.{Next, SendGets, ReplyGets, Joined, Closed, SameCalls}
 use Rattle.ledger.specs.History.{Operation, history, ledgerAfter, Accounted}
 use Rattle.ledger.specs.declared.Ledger.{Ledger}
@@ -409,7 +409,8 @@ unfolding openAnswer
 order-5-opened last = refl
 
 -- "A ledger with more in flight, one xid twice or grant 0 gets 17 first."; "it is refused with 23 exactly if the calls in flight reach or pass the grant or 32"
-pub order-5-send : (l : Ledger) → SendGets l (sendNumber l)
+pub order-5-send : (l : Ledger) → SendGets l (sendAnswer l .number)
+unfolding sendAnswer
 order-5-send = ledger-conditions.send-gets
 
 -- "A reply names an xid and a grant: 25 if the grant is 0, then 24 if the xid is not in flight"
@@ -417,11 +418,13 @@ pub order-5-reply : (l : Ledger) (xid grant : ℕ) → ReplyGets l xid grant (re
 order-5-reply = ledger-conditions.reply-gets
 
 -- "Sending takes the next xid, one more than the last, wrapping to 0 behind the largest, and passing over xids still in flight": at most as many as are in flight, so at most 31.
-pub order-5-next : (l : Ledger) → length (l .xids) ≡ 32 → sendNumber l ≡ 0 → Next l (sendAnswer l .xid)
+pub order-5-next : (l : Ledger) → length (l .xids) ≡ 32 → sendAnswer l .number ≡ 0 → Next l (sendAnswer l .xid)
+unfolding sendAnswer
 order-5-next = ledger-conditions.next-is
 
 -- "Xids stand in sending order .. places behind them are .. zero after an accepted operation"
-pub order-5-sent : (l : Ledger) → length (l .xids) ≡ 32 → sendNumber l ≡ 0 → Joined l (sendLedger l) (sendAnswer l .xid)
+pub order-5-sent : (l : Ledger) → length (l .xids) ≡ 32 → sendAnswer l .number ≡ 0 → Joined l (sendLedger l) (sendAnswer l .xid)
+unfolding sendAnswer
 order-5-sent = ledger-places.send-joins
 
 -- "a leaving one closes its gap"; "else the call leaves and the grant is set, above 32 too. A lower grant takes no call back."
@@ -430,14 +433,16 @@ order-5-replied = ledger-places.reply-leaves
 
 -- "places behind them are ignored": by the checks, and by what an accepted operation leaves.
 pub order-5-ignored : (l k : Ledger) → SameCalls l k →
-    (sendAnswer l ≡ sendAnswer k) × (sendNumber l ≡ 0 → sendLedger l ≡ sendLedger k)
+    (sendAnswer l ≡ sendAnswer k) × (sendAnswer l .number ≡ 0 → sendLedger l ≡ sendLedger k)
     × ((xid grant : ℕ) → (replyNumber l xid grant ≡ replyNumber k xid grant) × (replyNumber l xid grant ≡ 0 → replyLedger l xid grant ≡ replyLedger k xid grant))
+unfolding sendAnswer
 order-5-ignored = λ l k s. (ledger-conditions.send-ignores l k s .0, ledger-conditions.send-ignores l k s .1, ledger-conditions.reply-ignores l k s)
 
 -- "A refusal changes nothing.": of the ledger, and hands out no xid.
 pub order-5-refused : (l : Ledger) →
-    ((sendNumber l ≡ 0 → ⊥) → (sendAnswer l ≡ record { number = sendNumber l; xid = 0 }) × (sendLedger l ≡ l))
+    ((sendAnswer l .number ≡ 0 → ⊥) → (sendAnswer l .xid ≡ 0) × (sendLedger l ≡ l))
     × ((xid grant : ℕ) → (replyNumber l xid grant ≡ 0 → ⊥) → replyLedger l xid grant ≡ l)
+unfolding sendAnswer
 order-5-refused = ledger-conditions.refused
 
 -- Order 5, case by case.
