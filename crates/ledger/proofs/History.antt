@@ -164,7 +164,7 @@ books-sent gone ans g x b free room =
 
 -- One call more is answered.
 books-answered : (gone ans : List ℕ) (g x grant : ℕ) → Books gone ans g → isIn x (minus gone ans) ≡ true → (grant ≡ 0 → ⊥) → Books gone (ans ++ x ∷ []) grant
-books-answered gone ans g x grant b there set =
+books-answered gone ans g x grant b there some =
     let fewer = minus-one gone ans x in
     let one = length-without x (minus gone ans) there in
     let all = b .all in
@@ -174,7 +174,7 @@ books-answered gone ans g x grant b there set =
       all = let t = length-append ans (x ∷ []) in rw fewer (omega arith);
       few = rw fewer (omega arith);
       once = rw fewer (once-without x (minus gone ans) (b .once));
-      granted = set;
+      granted = some;
     }
 
 -- The ledger by the history.

@@ -114,7 +114,7 @@ left l xid grant all few e =
       zeros = λ k h. zeros-behind (without xid (inFlight l)) (maxInFlight - length (without xid (inFlight l))) k (omega arith);
       places = full (without xid (inFlight l)) (omega arith);
       count = omega arith;
-      set = refl;
+      granted = refl;
       last = refl;
     }
 

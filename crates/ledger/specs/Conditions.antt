@@ -73,7 +73,7 @@ pub record Closed (before after : Ledger) (xid grant : ℕ) : Type 0 where
   pub zeros : (k : ℕ) → before .count ≤ k + 1 → getD (after .xids) k 0 ≡ 0
   pub places : length (after .xids) ≡ 32
   pub count : after .count + 1 ≡ before .count
-  pub set : after .grant ≡ grant
+  pub granted : after .grant ≡ grant
   pub last : after .last ≡ before .last
 
 -- "places behind them are ignored": two ledgers that differ there alone.
