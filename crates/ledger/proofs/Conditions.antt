@@ -1,19 +1,19 @@
--- The tests that definitions and code make are the conditions of order 5, said by places.
+-- The tests that definitions and code make are the conditions of orders 5 and 6, said by places.
 -- Assumes nothing.
 use mathlib.Core.Path.{_≡_, refl, sym, _∙_}
 use mathlib.Core.Bool.{Bool, true, false, not, false≢true, true≢false, or-true}
 use mathlib.Core.List.{List, [], _∷_, _++_}
-use Prim.Native.Nat.{ℕ, zero, suc, _+_, _%_, _<_}
+use Prim.Native.Nat.{ℕ, zero, suc, _+_, _%_, _≤_, _<_}
 use native.Mathlib.Omega.{arith}
 use lib.ListN.{length, getD}
 use lib.Dec.{eqb, leb, ltb}
 use borrow.Author.Tests.{eqb-true, eqb-false, eq-eqb, ne-eqb, leb-true, leb-false, le-leb, ltb-true, lt-ltb, not-true}
 use Rattle.answers.specs.Answers.{check}
 use Rattle.answers.proofs.Checks.{neither, check-passed}
-use Rattle.ledger.specs.Ledger.{maxInFlight, inFlight, ledgerOf, isIn, anyTwice, unfit, xidAfter, firstFree, nextXid, spent, sendNumber, sendAnswer, sendLedger, replyNumber, replyLedger}
-use Rattle.ledger.specs.Conditions.{In, Twice, Unfit, more-in-flight, one-twice, no-grant, Spent, reach-grant, reach-room, Next, SendGets, send-unfit, send-spent, send-taken, ReplyGets, reply-unfit, reply-no-grant, reply-unknown, reply-taken, SameCalls}
+use Rattle.ledger.specs.Ledger.{maxInFlight, inFlight, ledgerOf, isIn, anyTwice, unfit, nextXid, spent, sendNumber, passedOver, sendAnswer, sendLedger, replyNumber, replyLedger}
+use Rattle.ledger.specs.Conditions.{In, Twice, Unfit, more-in-flight, one-twice, no-grant, Spent, reach-grant, reach-room, RunBehind, Next, StepsOn, SendGets, send-unfit, send-spent, send-taken, ReplyGets, reply-unfit, reply-no-grant, reply-unknown, reply-taken, SameCalls}
 use Rattle.ledger.specs.declared.Ledger.{Ledger}
-use Rattle.ledger.proofs.Searching.{Found, finds, finds-free}
+use Rattle.ledger.proofs.Searching.{run-first, Unbroken, unbroken-others, unbroken-only, run-within, run-unbroken, search-ends}
 use Rattle.ledger.proofs.Steps.{all-in-flight, send-kept, reply-kept}
 
 -- In a list.
@@ -37,6 +37,13 @@ at-in x xs i = in-place x xs (i .place) (i .within) (i .is)
 
 pub not-in : (x : ℕ) (xs : List ℕ) → isIn x xs ≡ false → In x xs → ⊥
 not-in x xs e i = true≢false (sym (at-in x xs i) ∙ e)
+
+at-not : (x : ℕ) (xs : List ℕ) → (In x xs → ⊥) → isIn x xs ≡ false
+at-not x xs d = by-test (isIn x xs) refl
+  where
+    by-test : (b : Bool) → isIn x xs ≡ b → isIn x xs ≡ false
+    by-test true e = absurd (d (in-at x xs e))
+    by-test false e = e
 
 -- Twice in a list.
 twice-at : (xs : List ℕ) → anyTwice xs ≡ true → Twice xs
@@ -132,22 +139,65 @@ pub below : (l : Ledger) → spent l ≡ false → l .count < maxInFlight
 unfolding spent
 below l e = leb-false maxInFlight (l .count) (neither (leb (l .grant) (l .count)) (leb maxInFlight (l .count)) e .1)
 
--- The xid of a call that is sent.
-pub next-is : (l : Ledger) → length (l .xids) ≡ maxInFlight → sendNumber l ≡ 0 → Next l (sendAnswer l .xid)
-unfolding sendAnswer nextXid
-next-is l long e =
-    let room = below l (accepts l e .1) in
-    let all = all-in-flight l long (omega arith) in
-    let f : Found (l .count) (l .last + 1) (inFlight l) (firstFree (l .count) (xidAfter (l .last)) (inFlight l)) = finds (l .count) (l .last + 1) (inFlight l) in
-    let most = f .most in
-    rw e (record {
-      passed = f .passed;
-      within = most;
-      most = omega arith;
-      is = f .is;
-      over = λ k h. in-at ((l .last + 1 + k) % 4294967296) (inFlight l) (f .over k h);
-      free = not-in _ (inFlight l) (rw all at (finds-free (l .last + 1) (inFlight l) (omega arith)));
-    })
+-- The unbroken run of xids in flight behind the last one given, said by places.
+pub behind-last : (l : Ledger) (n : ℕ) → Unbroken n (l .last + 1) (inFlight l) → RunBehind l n
+behind-last l n u = record { over = λ k h. in-at ((l .last + 1 + k) % 4294967296) (inFlight l) (u .over k h); ends = not-in ((l .last + 1 + n) % 4294967296) (inFlight l) (u .ends) }
+
+unbroken-behind : (l : Ledger) (n : ℕ) → RunBehind l n → Unbroken n (l .last + 1) (inFlight l)
+unbroken-behind l n r =
+    record { over = λ k h. at-in ((l .last + 1 + k) % 4294967296) (inFlight l) (r .over k h); ends = at-not ((l .last + 1 + n) % 4294967296) (inFlight l) (r .ends) }
+
+steps-on : (n x : ℕ) (xs : List ℕ) → Unbroken n x xs → StepsOn n (x % 4294967296) ((x + n) % 4294967296) xs
+unfolding StepsOn
+steps-on zero x xs u = let same : x + 0 ≡ x = omega arith in (omega arith, not-in ((x + 0) % 4294967296) xs (u .ends))
+steps-on (suc n) x xs u =
+    let on : (x % 4294967296 + 1) % 4294967296 ≡ (x + 1) % 4294967296 = omega arith in
+    let same : x + suc n ≡ x + 1 + n = omega arith in
+    (in-at (x % 4294967296) xs (run-first n x xs (u .over)), rw (on, same) (steps-on n (x + 1) xs (unbroken-others n x xs u)))
+
+-- A call that is sent: the xid given, and how many were passed over.
+module _ (l : Ledger) (long : length (l .xids) ≡ maxInFlight) (e : sendNumber l ≡ 0) where
+  room : l .count < maxInFlight
+  room = below l (accepts l e .1)
+
+  all : length (inFlight l) ≡ l .count
+  all = all-in-flight l long (let h = room in omega arith)
+
+  few : length (inFlight l) < maxInFlight
+  few = rw all room
+
+  xid-is : sendAnswer l .xid ≡ nextXid l
+  unfolding sendAnswer
+  xid-is = rw e
+
+  passed-is : sendAnswer l .passed ≡ passedOver l
+  unfolding sendAnswer
+  passed-is = rw e
+
+  passed-run : Unbroken (sendAnswer l .passed) (l .last + 1) (inFlight l)
+  unfolding passedOver
+  passed-run = rw passed-is (run-unbroken maxInFlight (l .last) (inFlight l) (omega arith) few)
+
+  pub passed-most : (sendAnswer l .passed ≤ l .count) × (sendAnswer l .passed ≤ 31)
+  unfolding passedOver
+  passed-most =
+      let within = run-within maxInFlight (l .last) (inFlight l) (omega arith) in
+      let h = room in
+      let k = all in
+      rw passed-is (omega arith, omega arith)
+
+  pub run-is : (n : ℕ) → (sendAnswer l .passed ≡ n → RunBehind l n) × (RunBehind l n → sendAnswer l .passed ≡ n)
+  run-is n = (λ q. behind-last l n (rw q at passed-run), λ r. unbroken-only (sendAnswer l .passed) n (l .last + 1) (inFlight l) passed-run (unbroken-behind l n r))
+
+  pub next-is : Next l (sendAnswer l .xid) (sendAnswer l .passed)
+  unfolding nextXid
+  next-is =
+      let within = passed-most .0 in
+      let is : sendAnswer l .xid ≡ (l .last + 1 + sendAnswer l .passed) % 4294967296 = xid-is ∙ search-ends (sendAnswer l .passed) (l .count) (l .last + 1) (inFlight l) passed-run within in
+      record { over = behind-last l (sendAnswer l .passed) passed-run; is = is }
+
+  pub search-is : StepsOn (sendAnswer l .passed) ((l .last + 1) % 4294967296) (sendAnswer l .xid) (inFlight l)
+  search-is = rw (next-is .is) (steps-on (sendAnswer l .passed) (l .last + 1) (inFlight l) passed-run)
 
 -- It joins at the end, and is the last one given.
 pub sent-ledger : (l : Ledger) → sendNumber l ≡ 0 → sendLedger l ≡ ledgerOf (inFlight l ++ sendAnswer l .xid ∷ []) (l .grant) (sendAnswer l .xid)
@@ -164,9 +214,13 @@ module _ (l k : Ledger) (s : SameCalls l k) where
   unfolding nextXid
   next-same = rw (s .calls, s .count, s .last)
 
+  passed-same : passedOver l ≡ passedOver k
+  unfolding passedOver
+  passed-same = rw (s .calls, s .last)
+
   pub send-ignores : (sendAnswer l ≡ sendAnswer k) × (sendNumber l ≡ 0 → sendLedger l ≡ sendLedger k)
   unfolding sendAnswer sendLedger
-  send-ignores = (rw (send-number-same, next-same), λ e. rw (e, sym send-number-same ∙ e, next-same, s .calls, s .grant))
+  send-ignores = (rw (send-number-same, next-same, passed-same), λ e. rw (e, sym send-number-same ∙ e, next-same, s .calls, s .grant))
 
   reply-number-same : (xid grant : ℕ) → replyNumber l xid grant ≡ replyNumber k xid grant
   unfolding replyNumber unfit
@@ -182,3 +236,8 @@ pub refused : (l : Ledger) →
     × ((xid grant : ℕ) → (replyNumber l xid grant ≡ 0 → ⊥) → replyLedger l xid grant ≡ l)
 unfolding sendAnswer
 refused l = (λ d. (rw (ne-eqb (sendNumber l) 0 d), sym (send-kept l d)), λ xid grant d. sym (reply-kept l xid grant d))
+
+-- "A refused send reports 0."
+pub reports-none : (l : Ledger) → (sendNumber l ≡ 0 → ⊥) → sendAnswer l .passed ≡ 0
+unfolding sendAnswer
+reports-none l d = rw (ne-eqb (sendNumber l) 0 d)

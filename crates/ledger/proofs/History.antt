@@ -10,11 +10,11 @@ use lib.Seq.{take-append-seam, append-snoc}
 use lib.Dec.{eqb, leb, ltb}
 use borrow.Author.Tests.{eqb-true, eqb-false, eq-eqb, ne-eqb, lt-ltb, le-ltb, leb-false}
 use Rattle.answers.proofs.Checks.{neither}
-use Rattle.ledger.specs.Ledger.{maxInFlight, inFlight, ledgerOf, openAnswer, isIn, anyTwice, unfit, nextXid, spent, sendNumber, sendAnswer, sendLedger, replyNumber, without, replyLedger}
+use Rattle.ledger.specs.Ledger.{maxInFlight, inFlight, ledgerOf, openAnswer, isIn, anyTwice, unfit, nextXid, spent, sendNumber, passedOver, sendAnswer, sendLedger, replyNumber, without, replyLedger}
 use Rattle.ledger.specs.History.{Operation, sending, replying, ledgerLeft, Event, sendGot, replyGot, eventOf, ledgerAfter, history, sentIn, answeredIn, grantIn, lastIn, occurrences, unanswered, unansweredCalls, spentIn, NextXid, SendSaid, Said, AllSaid, numbersIn, minus, Accounted}
 use Rattle.ledger.specs.declared.Ledger.{Ledger}
 use Rattle.ledger.proofs.Xids.{length-without, once-without, once-end}
-use Rattle.ledger.proofs.Searching.{finds, finds-free}
+use Rattle.ledger.proofs.Searching.{run-within, run-unbroken, search-ends}
 
 -- How often an xid is in a list.
 occurrences-append : (x : ℕ) (xs ys : List ℕ) → occurrences x (xs ++ ys) ≡ occurrences x xs + occurrences x ys
@@ -210,18 +210,19 @@ module _ (last : ℕ) (es : List Event) (b : Books (sentIn es) (answeredIn es) (
   unfolding spent
   spent-is = rw calls-are
 
-  -- The search is over the xids that are not answered.
-  next-said : length (left es) < maxInFlight → NextXid es (lastIn last es) (nextXid l)
-  unfolding nextXid
+  -- The run and the search are over the xids that are not answered.
+  next-said : length (left es) < maxInFlight → NextXid es (lastIn last es) (nextXid l) (passedOver l)
+  unfolding nextXid passedOver
   next-said h =
-      let f = finds (length (left es)) (lastIn last es + 1) (left es) in
-      let most = f .most in
+      let within = run-within maxInFlight (lastIn last es) (left es) (omega arith) in
+      let u = run-unbroken maxInFlight (lastIn last es) (left es) (omega arith) h in
+      let is = search-ends _ (length (left es)) (lastIn last es + 1) (left es) u within in
       rw (in-flight-of (left es) (grantIn 1 es) (lastIn last es)) (record {
-        passed = f .passed;
+        is = is;
+        over = λ k below. unanswered-is ((lastIn last es + 1 + k) % 4294967296) ∙ u .over k below;
+        free = unanswered-is _ ∙ rw is (u .ends);
+        within = rw calls-are within;
         most = omega arith;
-        is = f .is;
-        over = λ k below. unanswered-is ((lastIn last es + 1 + k) % 4294967296) ∙ f .over k below;
-        free = unanswered-is _ ∙ finds-free (lastIn last es + 1) (left es) (omega arith);
       })
 
   send-number : sendNumber l ≡ cond (spentIn es) 23 0
@@ -238,11 +239,13 @@ module _ (last : ℕ) (es : List Event) (b : Books (sentIn es) (answeredIn es) (
 
   send-said : SendSaid last es (sendAnswer l)
   unfolding sendAnswer
-  send-said = record { number = send-number; xid = rw send-number (by-test (spentIn es) refl) }
+  send-said = record { number = send-number; refused = λ e. let is = spends e in (rw is, rw is); sent = λ e. let is = takes e in rw is (next-said (room e)) }
     where
-      by-test : (c : Bool) → spentIn es ≡ c → cond c (cond (eqb (cond c 23 0) 0) (nextXid l) 0 ≡ 0) (NextXid es (lastIn last es) (cond (eqb (cond c 23 0) 0) (nextXid l) 0))
-      by-test true e = refl
-      by-test false e = next-said (room e)
+      spends : spentIn es ≡ true → sendNumber l ≡ 23
+      spends e = send-number ∙ rw e
+
+      takes : spentIn es ≡ false → sendNumber l ≡ 0
+      takes e = send-number ∙ rw e
 
   reply-said : (xid grant : ℕ) → replyNumber l xid grant ≡ cond (eqb grant 0) 25 (cond (unanswered es xid) 0 24)
   unfolding replyNumber
@@ -362,3 +365,8 @@ accounted last os = settled (runs last os [] books-open)
           never-17 = never last [] es (k .said);
           whole = sym is;
         }
+
+-- A send, after any history.
+pub next-send : (last : ℕ) (os : List Operation) → SendSaid last (history (openAnswer last .ledger) os) (sendAnswer (ledgerAfter (openAnswer last .ledger) os))
+unfolding openAnswer sentIn answeredIn grantIn lastIn minus
+next-send last os = let k = runs last os [] books-open in rw (← (k .ledger)) (send-said last (history (ledgerOf [] 1 last) os) (k .books))

@@ -1,35 +1,37 @@
--- The search for the next xid: it ends, since so many different xids need as many places, at one that is not in flight.
+-- The unbroken run of xids in a list from one xid on, and the search that passes over it. It ends, since so many different xids need as many places.
 -- Assumes nothing.
 use mathlib.Core.Path.{_≡_, refl, sym, ap, _∙_}
-use mathlib.Core.Bool.{Bool, true, false, cond}
-use mathlib.Core.List.{List}
-use Prim.Native.Nat.{ℕ, zero, suc, _+_, _-_, _%_, _≤_, _<_}
+use mathlib.Core.Bool.{Bool, true, false, cond, true≢false}
+use mathlib.Core.List.{List, _∷_}
+use Prim.Native.Nat.{ℕ, zero, suc, _+_, _%_, _≤_, _<_}
 use native.Mathlib.Omega.{arith}
 use lib.ListN.{length}
 use lib.Dec.{eqb, ltb}
 use borrow.Author.Tests.{eqb-true, eqb-false, ltb-true, ltb-false}
-use Rattle.ledger.specs.Ledger.{isIn, xidAfter, firstFree, without}
+use Rattle.ledger.specs.Ledger.{isIn, xidAfter, firstFree, xidsBehind, runLength, without}
 use Rattle.ledger.proofs.Xids.{in-without, length-without}
 
 -- The n xids from x on are in the list.
 abbrev pub Run : ℕ → ℕ → List ℕ → Type 0
 Run n x xs = (k : ℕ) → k < n → isIn ((x + k) % 4294967296) xs ≡ true
 
+-- The first of them, and the others.
+pub run-first : (n x : ℕ) (xs : List ℕ) → Run (suc n) x xs → isIn (x % 4294967296) xs ≡ true
+run-first n x xs r = let same : x + 0 ≡ x = omega arith in rw same at (r 0 (omega arith))
+
+run-others : (n x : ℕ) (xs : List ℕ) → Run (suc n) x xs → Run n (x + 1) xs
+run-others n x xs r k h = let same : x + 1 + k ≡ x + suc k = omega arith in rw same (r (suc k) (omega arith))
+
 -- So many different xids need as many places.
 pub places : (n x : ℕ) (xs : List ℕ) → n ≤ 4294967296 → Run n x xs → n ≤ length xs
 places zero x xs h r = omega arith
 places (suc n) x xs h r =
-    let zero-on : x + 0 ≡ x = omega arith in
-    let here : isIn (x % 4294967296) xs ≡ true = rw zero-on at (r 0 (omega arith)) in
-    let fewer = places n (x + 1) (without (x % 4294967296) xs) (omega arith) (λ k b. in-without (x % 4294967296) ((x + 1 + k) % 4294967296) xs (λ q. omega arith) (next k (r (suc k) (omega arith)))) in
-    let one-less = length-without (x % 4294967296) xs here in
+    let fewer = places n (x + 1) (without (x % 4294967296) xs) (omega arith) (λ k b. in-without (x % 4294967296) ((x + 1 + k) % 4294967296) xs (λ q. omega arith) (run-others n x xs r k b)) in
+    let one-less = length-without (x % 4294967296) xs (run-first n x xs r) in
     omega arith
-  where
-    next : (k : ℕ) → isIn ((x + suc k) % 4294967296) xs ≡ true → isIn ((x + 1 + k) % 4294967296) xs ≡ true
-    next k f = let same : x + 1 + k ≡ x + suc k = omega arith in rw same f
 
--- One more.
-run-more : (n x : ℕ) (xs : List ℕ) → Run n x xs → isIn ((x + n) % 4294967296) xs ≡ true → Run (n + 1) x xs
+-- One more at the end, and at the front.
+pub run-more : (n x : ℕ) (xs : List ℕ) → Run n x xs → isIn ((x + n) % 4294967296) xs ≡ true → Run (n + 1) x xs
 run-more n x xs r e k h = at-end (eqb k n) refl
   where
     at-end : (c : Bool) → eqb k n ≡ c → isIn ((x + k) % 4294967296) xs ≡ true
@@ -40,93 +42,86 @@ run-before : (n x : ℕ) (xs : List ℕ) → isIn (x % 4294967296) xs ≡ true �
 run-before n x xs e r zero h = let same : x + 0 ≡ x = omega arith in rw same e
 run-before n x xs e r (suc k) h = let same : x + suc k ≡ x + 1 + k = omega arith in rw same (r k (omega arith))
 
--- What a search from x on finds that may pass over n.
-pub record Found (n x : ℕ) (xs : List ℕ) (free : ℕ) : Type 0 where
-  pub passed : ℕ
-  pub most : passed ≤ n
-  pub is : free ≡ (x + passed) % 4294967296
-  pub over : Run passed x xs
-  pub stops : passed < n → isIn free xs ≡ false
+-- The unbroken run from x on has n xids.
+pub record Unbroken (n x : ℕ) (xs : List ℕ) : Type 0 where
+  pub over : Run n x xs
+  pub ends : isIn ((x + n) % 4294967296) xs ≡ false
 
-pub finds : (n x : ℕ) (xs : List ℕ) → Found n x xs (firstFree n (x % 4294967296) xs)
+pub unbroken-none : (x : ℕ) (xs : List ℕ) → Unbroken 0 x xs → isIn (x % 4294967296) xs ≡ false
+unbroken-none x xs u = let same : x + 0 ≡ x = omega arith in rw same at (u .ends)
+
+pub unbroken-others : (n x : ℕ) (xs : List ℕ) → Unbroken (suc n) x xs → Unbroken n (x + 1) xs
+unbroken-others n x xs u = let same : x + 1 + n ≡ x + suc n = omega arith in record { over = run-others n x xs (u .over); ends = rw same (u .ends) }
+
+-- And no other number.
+pub unbroken-only : (n m x : ℕ) (xs : List ℕ) → Unbroken n x xs → Unbroken m x xs → n ≡ m
+unbroken-only zero zero x xs u v = refl
+unbroken-only zero (suc m) x xs u v = absurd (true≢false (sym (run-first m x xs (v .over)) ∙ unbroken-none x xs u))
+unbroken-only (suc n) zero x xs u v = absurd (true≢false (sym (run-first n x xs (u .over)) ∙ unbroken-none x xs v))
+unbroken-only (suc n) (suc m) x xs u v = ap suc (unbroken-only n m (x + 1) xs (unbroken-others n x xs u) (unbroken-others m x xs v))
+
+-- What the run among the n xids behind x says: all of them are in the list, or it is unbroken.
+record Counted (n x : ℕ) (xs : List ℕ) (run : ℕ) : Type 0 where
+  most : run ≤ n
+  over : Run run (x + 1) xs
+  stops : run < n → isIn ((x + 1 + run) % 4294967296) xs ≡ false
+
+xids-on : (n x : ℕ) → xidsBehind n (x % 4294967296) ≡ xidsBehind n x
+unfolding xidsBehind
+xids-on zero x = refl
+xids-on (suc n) x = from-same (omega arith)
+  where
+    from-same : {y z : ℕ} → y ≡ z → y ∷ xidsBehind n y ≡ z ∷ xidsBehind n z
+    from-same e = rw e
+
+counted : (n x : ℕ) (xs : List ℕ) → Counted n x xs (runLength (xidsBehind n x) xs)
+unfolding xidsBehind runLength
+counted zero x xs = record { most = omega arith; over = λ k h. absurd (omega arith); stops = λ h. absurd (omega arith) }
+counted (suc n) x xs = rw (xids-on n (x + 1)) (by-test (counted n (x + 1) xs) (isIn ((x + 1) % 4294967296) xs) refl)
+  where
+    by-test : Counted n (x + 1) xs (runLength (xidsBehind n (x + 1)) xs) → (b : Bool) → isIn ((x + 1) % 4294967296) xs ≡ b → Counted (suc n) x xs (cond b (suc (runLength (xidsBehind n (x + 1)) xs)) 0)
+    by-test c true e =
+        let most = c .most in
+        let same : x + 1 + suc (runLength (xidsBehind n (x + 1)) xs) ≡ x + 1 + 1 + runLength (xidsBehind n (x + 1)) xs = omega arith in
+        record { most = omega arith; over = run-before (runLength (xidsBehind n (x + 1)) xs) (x + 1) xs e (c .over); stops = λ h. rw same (c .stops (omega arith)) }
+    by-test c false e = let same : x + 1 + 0 ≡ x + 1 = omega arith in record { most = omega arith; over = λ k h. absurd (omega arith); stops = λ h. rw same e }
+
+-- It is no longer than the list, and among more xids than the list has it is unbroken.
+pub run-within : (n x : ℕ) (xs : List ℕ) → n ≤ 4294967296 → runLength (xidsBehind n x) xs ≤ length xs
+run-within n x xs below = let c = counted n x xs in let most = c .most in places (runLength (xidsBehind n x) xs) (x + 1) xs (omega arith) (c .over)
+
+pub run-unbroken : (n x : ℕ) (xs : List ℕ) → n ≤ 4294967296 → length xs < n → Unbroken (runLength (xidsBehind n x) xs) (x + 1) xs
+run-unbroken n x xs below short = let c = counted n x xs in let few = run-within n x xs below in record { over = c .over; ends = c .stops (omega arith) }
+
+-- The search that may pass over so many stops at its end.
+pub search-ends : (n m x : ℕ) (xs : List ℕ) → Unbroken n x xs → n ≤ m → firstFree m (x % 4294967296) xs ≡ (x + n) % 4294967296
 unfolding firstFree
-finds zero x xs = record { passed = 0; most = omega arith; is = omega arith; over = λ k h. absurd (omega arith); stops = λ h. absurd (omega arith) }
-finds (suc n) x xs = by-test (finds n (x + 1) xs) (isIn (x % 4294967296) xs) refl
-  where
-    on : xidAfter (x % 4294967296) ≡ (x + 1) % 4294967296
-    on = omega arith
-
-    by-test : Found n (x + 1) xs (firstFree n ((x + 1) % 4294967296) xs) → (b : Bool) → isIn (x % 4294967296) xs ≡ b → Found (suc n) x xs (cond b (firstFree n (xidAfter (x % 4294967296)) xs) (x % 4294967296))
-    by-test f true e =
-        let most = f .most in
-        let is = f .is in
-        rw on (record {
-          passed = suc (f .passed);
-          most = omega arith;
-          is = is ∙ ap (λ (y : ℕ). y % 4294967296) (omega arith);
-          over = run-before (f .passed) x xs e (f .over);
-          stops = λ h. f .stops (omega arith);
-        })
-    by-test f false e = record { passed = 0; most = omega arith; is = omega arith; over = λ k h. absurd (omega arith); stops = λ h. e }
-
--- A search that may pass over as many as the list is long ends at one that is not in it.
-pub finds-free : (x : ℕ) (xs : List ℕ) → length xs < 4294967296 → isIn (firstFree (length xs) (x % 4294967296) xs) xs ≡ false
-finds-free x xs few = by-test (finds (length xs) x xs) (isIn (firstFree (length xs) (x % 4294967296) xs) xs) refl
-  where
-    by-test : Found (length xs) x xs (firstFree (length xs) (x % 4294967296) xs) → (b : Bool) → isIn (firstFree (length xs) (x % 4294967296) xs) xs ≡ b → isIn (firstFree (length xs) (x % 4294967296) xs) xs ≡ false
-    by-test f false e = e
-    by-test f true e = at-end (ltb (f .passed) (length xs)) refl
-      where
-        at-end : (c : Bool) → ltb (f .passed) (length xs) ≡ c → isIn (firstFree (length xs) (x % 4294967296) xs) xs ≡ false
-        at-end true q = f .stops (ltb-true _ _ q)
-        at-end false q =
-            let all = ltb-false (f .passed) (length xs) q in
-            let most = f .most in
-            let more = places (f .passed + 1) x xs (omega arith) (run-more (f .passed) x xs (f .over) (rw (f .is) at e)) in
-            absurd (omega arith)
-
--- How many xids lie between the last one given and this one.
-abbrev pub passedTo : ℕ → ℕ → ℕ
-passedTo last xid = (xid + 4294967295 - last) % 4294967296
+search-ends zero zero x xs u h = omega arith
+search-ends zero (suc m) x xs u h = rw (unbroken-none x xs u) (omega arith)
+search-ends (suc n) zero x xs u h = absurd (omega arith)
+search-ends (suc n) (suc m) x xs u h =
+    let on : xidAfter (x % 4294967296) ≡ (x + 1) % 4294967296 = omega arith in
+    let same : x + 1 + n ≡ x + suc n = omega arith in
+    rw (run-first n x xs (u .over), on) (rw same at (search-ends n m (x + 1) xs (unbroken-others n x xs u) (omega arith)))
 
 -- The loop, where it has come to `xid`.
-pub record Seeking (xs : List ℕ) (last xid : ℕ) : Type 0 where
-  pub few : passedTo last xid ≤ length xs
-  pub over : Run (passedTo last xid) (last + 1) xs
-  pub same : firstFree (length xs) (xidAfter last) xs ≡ firstFree (length xs - passedTo last xid) xid xs
+pub record Seeking (xs : List ℕ) (last xid passed : ℕ) : Type 0 where
+  pub few : passed ≤ length xs
+  pub is : xid ≡ (last + 1 + passed) % 4294967296
+  pub over : Run passed (last + 1) xs
 
-pub seeking-starts : (xs : List ℕ) (last : ℕ) → last < 4294967296 → Seeking xs last (xidAfter last)
-seeking-starts xs last h =
-    let none : passedTo last (xidAfter last) ≡ 0 = omega arith in
-    let all : length xs - 0 ≡ length xs = omega arith in
-    record { few = rw none (omega arith); over = λ k b. absurd (omega arith); same = rw (none, all) }
+pub seeking-starts : (xs : List ℕ) (last : ℕ) → Seeking xs last ((last + 1) % 4294967296) 0
+seeking-starts xs last = record { few = omega arith; is = omega arith; over = λ k h. absurd (omega arith) }
 
-module _ (xs : List ℕ) (last xid : ℕ) (h : last < 4294967296) (g : xid < 4294967296) (short : length xs < 32) (s : Seeking xs last xid) where
-  here : isIn xid xs ≡ true → isIn ((last + 1 + passedTo last xid) % 4294967296) xs ≡ true
-  here e = let is : (last + 1 + passedTo last xid) % 4294967296 ≡ xid = omega arith in rw is e
-
-  -- There is room for one more to pass over.
-  pub room : isIn xid xs ≡ true → passedTo last xid + 1 ≤ length xs
-  room e = let few = s .few in places (passedTo last xid + 1) (last + 1) xs (omega arith) (run-more (passedTo last xid) (last + 1) xs (s .over) (here e))
-
-  pub one-on : isIn xid xs ≡ true → passedTo last (xidAfter xid) ≡ passedTo last xid + 1
-  one-on e = let few = room e in omega arith
-
-  pub seeking-next : isIn xid xs ≡ true → Seeking xs last (xidAfter xid)
-  unfolding firstFree
+module _ (xs : List ℕ) (last xid passed : ℕ) (short : length xs < 32) (s : Seeking xs last xid passed) where
+  pub seeking-next : isIn xid xs ≡ true → Seeking xs last ((xid + 1) % 4294967296) (passed + 1)
   seeking-next e =
-      let few = room e in
-      let left : length xs - passedTo last xid ≡ suc (length xs - (passedTo last xid + 1)) = omega arith in
-      record {
-        few = rw (one-on e) few;
-        over = rw (one-on e) (run-more (passedTo last xid) (last + 1) xs (s .over) (here e));
-        same = s .same ∙ rw (one-on e, left, e);
-      }
+      let few = s .few in
+      let is = s .is in
+      let over = run-more passed (last + 1) xs (s .over) (rw is at e) in
+      record { few = places (passed + 1) (last + 1) xs (omega arith) over; is = omega arith; over = over }
 
-  pub seeking-ends : isIn xid xs ≡ false → xid ≡ firstFree (length xs) (xidAfter last) xs
-  unfolding firstFree
-  seeking-ends e = sym (s .same ∙ stays (length xs - passedTo last xid) e)
-    where
-      stays : (n : ℕ) → isIn xid xs ≡ false → firstFree n xid xs ≡ xid
-      stays zero q = refl
-      stays (suc n) q = rw q
+  pub seeking-ends : isIn xid xs ≡ false → (xid ≡ firstFree (length xs) (xidAfter last) xs) × (passed ≡ runLength (xidsBehind 32 last) xs)
+  seeking-ends e =
+      let u : Unbroken passed (last + 1) xs = record { over = s .over; ends = rw (s .is) at e } in
+      (s .is ∙ sym (search-ends passed (length xs) (last + 1) xs u (s .few)), unbroken-only passed (runLength (xidsBehind 32 last) xs) (last + 1) xs u (run-unbroken 32 last xs (omega arith) short))

@@ -11,9 +11,10 @@ use lib.Seq.{length-take-le}
 use lib.Dec.{eqb, ltb, leb, T as Holds}
 use borrow.Author.Tests.{eq-eqb, ne-eqb, eqb-false, le-leb, lt-leb, le-ltb, lt-ltb, ltb-false}
 use Rattle.answers.proofs.Checks.{neither, kept}
-use Rattle.ledger.specs.Ledger.{maxInFlight, inFlight, padded, isIn, anyTwice, unfit, xidAfter, firstFree, nextXid, spent, sendNumber, sendAnswer, sendLedger, replyNumber, without, replyLedger}
+use Rattle.ledger.specs.Ledger.{maxInFlight, inFlight, padded, isIn, anyTwice, unfit, xidAfter, firstFree, nextXid, spent, sendNumber, xidsBehind, runLength, passedOver, sendAnswer, sendLedger, replyNumber, without, replyLedger}
 use Rattle.ledger.specs.Internal.Search.{placeOf}
 use Rattle.ledger.specs.declared.Ledger.{Ledger}
+use Rattle.ledger.specs.declared.FoundXid.{FoundXid}
 use Rattle.ledger.specs.declared.SendStep.{SendStep}
 use Rattle.ledger.specs.declared.ReplyStep.{ReplyStep}
 
@@ -76,18 +77,20 @@ module _ (l : Ledger) where
   unfolding sendLedger
   send-kept d = sym (kept (sendNumber l) _ l d)
 
-  pub sent-unfit : unfit l ≡ true → record { ledger = l; answer = record { number = 17; xid = 0 } } ≡ sent-step
+  pub sent-unfit : unfit l ≡ true → record { ledger = l; answer = record { number = 17; xid = 0; passed = 0 } } ≡ sent-step
   unfolding sendLedger sendAnswer sendNumber
   sent-unfit e = rw e
 
-  pub sent-spent : unfit l ≡ false → spent l ≡ true → record { ledger = l; answer = record { number = 23; xid = 0 } } ≡ sent-step
+  pub sent-spent : unfit l ≡ false → spent l ≡ true → record { ledger = l; answer = record { number = 23; xid = 0; passed = 0 } } ≡ sent-step
   unfolding sendLedger sendAnswer sendNumber
   sent-spent e f = rw (e, f)
 
-  pub sent-done : unfit l ≡ false → spent l ≡ false → length (inFlight l) ≡ l .count → (x : ℕ) → x ≡ firstFree (length (inFlight l)) (xidAfter (l .last)) (inFlight l) → (ys : List ℕ) → ys ≡ padded (inFlight l ++ x ∷ []) →
-      record { ledger = record { xids = ys; count = l .count + 1; grant = l .grant; last = x }; answer = record { number = 0; xid = x } } ≡ sent-step
-  unfolding sendLedger sendAnswer sendNumber nextXid
-  sent-done e f long x q ys r =
+  pub sent-done : unfit l ≡ false → spent l ≡ false → length (inFlight l) ≡ l .count → (found : FoundXid) →
+      found ≡ record { xid = firstFree (length (inFlight l)) (xidAfter (l .last)) (inFlight l); passed = runLength (xidsBehind maxInFlight (l .last)) (inFlight l) } →
+      (ys : List ℕ) → ys ≡ padded (inFlight l ++ found .xid ∷ []) →
+      record { ledger = record { xids = ys; count = l .count + 1; grant = l .grant; last = found .xid }; answer = record { number = 0; xid = found .xid; passed = found .passed } } ≡ sent-step
+  unfolding sendLedger sendAnswer sendNumber nextXid passedOver
+  sent-done e f long found q ys r =
       let more : length (inFlight l ++ firstFree (l .count) (xidAfter (l .last)) (inFlight l) ∷ []) ≡ l .count + 1 = simp (length-append, long) (omega arith) in
       rw (r, q, long, e, f, more)
 

@@ -1,5 +1,5 @@
--- The conditions of order 5 said by places, whichever way they are tested.
-use Prim.Native.Nat.{ℕ, _+_, _%_, _≤_, _<_}
+-- The conditions of orders 5 and 6 said by places, whichever way they are tested.
+use Prim.Native.Nat.{ℕ, zero, suc, _+_, _%_, _≤_, _<_}
 use mathlib.Core.Path.{_≡_}
 use mathlib.Core.List.{List}
 use lib.ListN.{length, getD}
@@ -31,14 +31,20 @@ pub data Spent (l : Ledger) : Type 0 where
   reach-grant : l .grant ≤ l .count → Spent l
   reach-room : 32 ≤ l .count → Spent l
 
--- "the next xid, one more than the last, wrapping to 0 behind the largest, and passing over xids still in flight": the search ends, since no more are passed over than are in flight.
-pub record Next (l : Ledger) (xid : ℕ) : Type 0 where
-  pub passed : ℕ
-  pub within : passed ≤ l .count
-  pub most : passed ≤ 31
+-- "passing over xids still in flight"; "the unbroken run of xids in flight that begins right behind the last one given" (order 6): it has n xids, which are in flight, and the one behind them is not.
+pub record RunBehind (l : Ledger) (n : ℕ) : Type 0 where
+  pub over : (k : ℕ) → k < n → In ((l .last + 1 + k) % 4294967296) (inFlight l)
+  pub ends : In ((l .last + 1 + n) % 4294967296) (inFlight l) → ⊥
+
+-- "the next xid, one more than the last, wrapping to 0 behind the largest, and passing over xids still in flight"
+pub record Next (l : Ledger) (xid passed : ℕ) : Type 0 where
+  pub over : RunBehind l passed
   pub is : xid ≡ (l .last + 1 + passed) % 4294967296
-  pub over : (k : ℕ) → k < passed → In ((l .last + 1 + k) % 4294967296) (inFlight l)
-  pub free : In xid (inFlight l) → ⊥
+
+-- The search for the next xid: from x it steps on n times, each time from an xid that is in the list to the one behind it, and stops at `xid`, which is not.
+unfoldable pub StepsOn : ℕ → ℕ → ℕ → List ℕ → Type 0
+StepsOn zero x xid xs = (x ≡ xid) × (In xid xs → ⊥)
+StepsOn (suc n) x xid xs = In x xs × StepsOn n ((x + 1) % 4294967296) xid xs
 
 -- "A ledger with more in flight, one xid twice or grant 0 gets 17 first."; "it is refused with 23 exactly if the calls in flight reach or pass the grant or 32": the number of a send, and why.
 pub data SendGets (l : Ledger) (number : ℕ) : Type 0 where

@@ -1,4 +1,4 @@
--- What a history of sends and replies says (document 02, order 5): "After any sequence of operations from the start, nobody else writing the ledger, the calls accepted for sending are those answered plus those in flight, taken from the history, and no xid is in flight twice."
+-- What a history of sends and replies says (document 02, orders 5 and 6): "After any sequence of operations from the start, nobody else writing the ledger, the calls accepted for sending are those answered plus those in flight, taken from the history, and no xid is in flight twice."
 use Prim.Native.Nat.{ℕ, suc, _+_, _-_, _%_, _≤_, _<_}
 use mathlib.Core.Path.{_≡_}
 use mathlib.Core.Bool.{Bool, true, false, cond, _||_}
@@ -78,18 +78,19 @@ unansweredCalls es = length (sentIn es) - length (answeredIn es)
 abbrev pub spentIn : List Event → Bool
 spentIn es = leb (grantIn 1 es) (unansweredCalls es) || leb maxInFlight (unansweredCalls es)
 
--- "the next xid, one more than the last, wrapping to 0 behind the largest, and passing over xids still in flight": of which there are at most 31.
-pub record NextXid (es : List Event) (last xid : ℕ) : Type 0 where
-  pub passed : ℕ
-  pub most : passed ≤ 31
+-- "the next xid, one more than the last, wrapping to 0 behind the largest, and passing over xids still in flight"; "the length of the unbroken run of xids in flight that begins right behind the last one given, and is at most the number in flight, so at most 31" (order 6)
+pub record NextXid (es : List Event) (last xid passed : ℕ) : Type 0 where
   pub is : xid ≡ (last + 1 + passed) % 4294967296
   pub over : (k : ℕ) → k < passed → unanswered es ((last + 1 + k) % 4294967296) ≡ true
   pub free : unanswered es xid ≡ false
+  pub within : passed ≤ unansweredCalls es
+  pub most : passed ≤ 31
 
--- What the history so far says of an event that comes next, the opener having named `last`.
+-- What the history so far says of an event that comes next, the opener having named `last`: "A refused send reports 0." (order 6)
 pub record SendSaid (last : ℕ) (es : List Event) (a : SendAnswer) : Type 0 where
   pub number : a .number ≡ cond (spentIn es) 23 0
-  pub xid : cond (spentIn es) (a .xid ≡ 0) (NextXid es (lastIn last es) (a .xid))
+  pub refused : spentIn es ≡ true → (a .xid ≡ 0) × (a .passed ≡ 0)
+  pub sent : spentIn es ≡ false → NextXid es (lastIn last es) (a .xid) (a .passed)
 
 abbrev pub Said : ℕ → List Event → Event → Type 0
 Said last es (sendGot a) = SendSaid last es a

@@ -1,4 +1,4 @@
--- The ledger of credits (document 02, order 5).
+-- The ledger of credits (document 02, orders 5 and 6).
 use Prim.Native.Nat.{ℕ, zero, suc, _+_, _-_, _%_}
 use mathlib.Core.Bool.{Bool, false, cond, not, _||_}
 use mathlib.Core.List.{List, [], _∷_, _++_}
@@ -64,9 +64,27 @@ spent l = leb (l .grant) (l .count) || leb maxInFlight (l .count)
 unfoldable pub sendNumber : Ledger → ℕ
 sendNumber l = check (not (unfit l)) 17 (check (not (spent l)) 23 0)
 
--- "A refused call returns its number .. and for all else zeros"
+-- The n xids right behind x, each "one more than the last, wrapping to 0 behind the largest".
+unfoldable pub xidsBehind : ℕ → ℕ → List ℕ
+xidsBehind zero x = []
+xidsBehind (suc n) x = xidAfter x ∷ xidsBehind n (xidAfter x)
+
+-- "the length of the unbroken run": how many of these xids, from the first on and up to one that is not, are in the list.
+unfoldable pub runLength : List ℕ → List ℕ → ℕ
+runLength [] xs = 0
+runLength (y ∷ ys) xs = cond (isIn y xs) (suc (runLength ys xs)) 0
+
+-- "the number of xids passed over .. equals the length of the unbroken run of xids in flight that begins right behind the last one given" (order 6): where a call is sent at most 31 are in flight, so that the run ends among the 32 xids behind the last.
+unfoldable pub passedOver : Ledger → ℕ
+passedOver l = runLength (xidsBehind maxInFlight (l .last)) (inFlight l)
+
+-- "A refused call returns its number .. and for all else zeros"; "Return the number of xids passed over with each accepted send. .. A refused send reports 0." (order 6)
 unfoldable pub sendAnswer : Ledger → SendAnswer
-sendAnswer l = record { number = sendNumber l; xid = unlessRefused (sendNumber l) (nextXid l) 0 }
+sendAnswer l = record {
+  number = sendNumber l;
+  xid = unlessRefused (sendNumber l) (nextXid l) 0;
+  passed = unlessRefused (sendNumber l) (passedOver l) 0;
+}
 
 -- "Sending takes the next xid"; "Xids stand in sending order"; "A refusal changes nothing."
 unfoldable pub sendLedger : Ledger → Ledger

@@ -6,7 +6,7 @@ ghost use mathlib.Core.List.{[], _∷_, _++_};
 ghost use Prim.Native.Nat.{ℕ, _+_, _≤_, _<_};
 ghost use lib.ListN.{length, take, drop};
 ghost use lib.Dec.{ltb};
-ghost use Rattle.ledger.specs.Ledger.{padded, isIn, anyTwice, unfit, xidAfter, firstFree, openAnswer, sendAnswer, sendLedger, replyNumber, replyLedger};
+ghost use Rattle.ledger.specs.Ledger.{padded, isIn, anyTwice, unfit, maxInFlight, xidAfter, firstFree, xidsBehind, runLength, openAnswer, sendAnswer, sendLedger, replyNumber, replyLedger};
 ghost use Rattle.ledger.specs.Internal.Search.{rising, placeOf};
 
 // "Room for 32 calls in flight"
@@ -26,11 +26,18 @@ pub struct OpenAnswer {
     pub number: u32,
 }
 
-// What a send is answered with: the number, and with 0 the xid of the call.
+// What a send is answered with: the number, and with 0 the xid of the call and how many xids were passed over.
 #[repr(C)]
 pub struct SendAnswer {
     pub number: u32,
     pub xid: u32,
+    pub passed: u32,
+}
+
+// What the search for an xid finds, and how many xids it passed over.
+pub struct FoundXid {
+    pub xid: u32,
+    pub passed: u32,
 }
 
 // A send by value: the ledger after it, and its answer.
@@ -132,16 +139,18 @@ fn is_unfit(xids: &[u32], count: u32, grant: u32) -> bool
     any_twice(&xids[..count as usize])
 }
 
-// The next xid behind the last that is not in the list.
-fn next_xid(list: &[u32], last: u32) -> u32
+// The next xid behind the last that is not in the list, and how many before it are.
+fn next_xid(list: &[u32], last: u32) -> FoundXid
     requires { ⌜ length (now list) < 32 ⌝ }
-    ensures { λ r. ⌜ r ≡ firstFree (length (now (list .entry))) (xidAfter last) (now (list .entry)) ⌝ }
+    ensures { λ r. ⌜ r ≡ record { xid = firstFree (length (now (list .entry))) (xidAfter last) (now (list .entry)); passed = runLength (xidsBehind maxInFlight last) (now (list .entry)) } ⌝ }
 {
     let mut xid = std::num::wrapping_add_u32(last, 1);
+    let mut passed = 0;
     while holds(list, xid) {
         xid = std::num::wrapping_add_u32(xid, 1);
+        passed += 1;
     }
-    xid
+    FoundXid { xid, passed }
 }
 
 // Zeros behind the first n xids.
@@ -175,11 +184,15 @@ fn leave(xids: &mut [u32], n: usize, p: usize)
 }
 
 fn not_sent(ledger: Ledger, number: u32) -> SendStep
-    ensures { λ r. ⌜ r ≡ record { ledger = ledger; answer = record { number = number; xid = 0 } } ⌝ }
+    ensures { λ r. ⌜ r ≡ record { ledger = ledger; answer = record { number = number; xid = 0; passed = 0 } } ⌝ }
 {
     SendStep {
         ledger,
-        answer: SendAnswer { number, xid: 0 },
+        answer: SendAnswer {
+            number,
+            xid: 0,
+            passed: 0,
+        },
     }
 }
 
@@ -198,20 +211,24 @@ fn sent(ledger: Ledger) -> SendStep
         return not_sent(ledger, answers::CREDIT_SPENT);
     }
     let n = ledger.count as usize;
-    let xid = next_xid(&xids[..n], ledger.last);
-    join(&mut xids, n, xid);
+    let found = next_xid(&xids[..n], ledger.last);
+    join(&mut xids, n, found.xid);
     SendStep {
         ledger: Ledger {
             xids,
             count: ledger.count + 1,
             grant: ledger.grant,
-            last: xid,
+            last: found.xid,
         },
-        answer: SendAnswer { number: 0, xid },
+        answer: SendAnswer {
+            number: 0,
+            xid: found.xid,
+            passed: found.passed,
+        },
     }
 }
 
-// Sends a call: takes the next xid. The ledger is changed where it lies.
+// Sends a call: takes the next xid, and says how many were passed over. The ledger is changed where it lies.
 pub fn send(ledger: &mut Ledger) -> SendAnswer
     ensures answer { λ r. ⌜ r ≡ sendAnswer (now (ledger .entry)) ⌝ }
     ensures ledger { λ _. ⌜ now (ledger .exit) ≡ sendLedger (now (ledger .entry)) ⌝ }

@@ -5,7 +5,7 @@ use mathlib.Core.Path.{_≡_, refl}
 use mathlib.Core.Bool.{true, false, cond, _&&_}
 use mathlib.Core.List.{List, [], _∷_, _++_, map}
 use mathlib.Core.Option.{some}
-use Prim.Native.Nat.{ℕ, _+_, _-_, _/_, _≤_, _<_}
+use Prim.Native.Nat.{ℕ, _+_, _-_, _/_, _%_, _≤_, _<_}
 use lib.Dec.{eqb}
 use lib.ListN.{length, getD, take, drop, replicate}
 use Rattle.wire.specs.Wire.{wordAt, joined, wordBytes}
@@ -54,9 +54,9 @@ use Rattle.returned.specs.Filled.{filled, Fills}
 use Rattle.returned.proofs.Fills as fills
 use Rattle.returned.proofs.Unused as unused
 use Rattle.returned.proofs.Lent as lent
-use Rattle.ledger.specs.Ledger.{openAnswer, sendAnswer, sendLedger, replyNumber, replyLedger}
-use Rattle.ledger.specs.Conditions.{Next, SendGets, ReplyGets, Joined, Closed, SameCalls}
-use Rattle.ledger.specs.History.{Operation, history, ledgerAfter, Accounted}
+use Rattle.ledger.specs.Ledger.{inFlight, openAnswer, sendAnswer, sendLedger, replyNumber, replyLedger}
+use Rattle.ledger.specs.Conditions.{RunBehind, Next, StepsOn, SendGets, ReplyGets, Joined, Closed, SameCalls}
+use Rattle.ledger.specs.History.{Operation, history, ledgerAfter, SendSaid, Accounted}
 use Rattle.ledger.specs.declared.Ledger.{Ledger}
 use Rattle.ledger.proofs.Conditions as ledger-conditions
 use Rattle.ledger.proofs.Places as ledger-places
@@ -71,7 +71,7 @@ use Rattle.theorems.specs.Cuts.{CutOf}
 use Rattle.theorems.specs.Demands.{takenBytes, Finished, Unchanged}
 use Rattle.theorems.specs.Reserved.{NeverGiven}
 use Rattle.theorems.specs.Exports.{exportThen}
-use Rattle.theorems.specs.Examples.{Holds, examples, numbers, edges, returnedCases, goesCases, orderCases, echoCases, ledgerCases}
+use Rattle.theorems.specs.Examples.{Holds, examples, numbers, edges, returnedCases, goesCases, orderCases, echoCases, ledgerCases, passedCases}
 use Rattle.theorems.proofs.Message as message
 use Rattle.theorems.proofs.Demand3 as demand-three
 use Rattle.theorems.proofs.Exports as exports
@@ -417,8 +417,8 @@ order-5-send = ledger-conditions.send-gets
 pub order-5-reply : (l : Ledger) (xid grant : ℕ) → ReplyGets l xid grant (replyNumber l xid grant)
 order-5-reply = ledger-conditions.reply-gets
 
--- "Sending takes the next xid, one more than the last, wrapping to 0 behind the largest, and passing over xids still in flight": at most as many as are in flight, so at most 31.
-pub order-5-next : (l : Ledger) → length (l .xids) ≡ 32 → sendAnswer l .number ≡ 0 → Next l (sendAnswer l .xid)
+-- "Sending takes the next xid, one more than the last, wrapping to 0 behind the largest, and passing over xids still in flight": as many as the answer says (order 6).
+pub order-5-next : (l : Ledger) → length (l .xids) ≡ 32 → sendAnswer l .number ≡ 0 → Next l (sendAnswer l .xid) (sendAnswer l .passed)
 unfolding sendAnswer
 order-5-next = ledger-conditions.next-is
 
@@ -448,3 +448,33 @@ order-5-refused = ledger-conditions.refused
 -- Order 5, case by case.
 pub order-5-cases : All Holds ledgerCases
 order-5-cases = worked.booked
+
+-- Order 6: "Return the number of xids passed over with each accepted send. It equals the length of the unbroken run of xids in flight that begins right behind the last one given": said by places, that run has so many xids, and no other number.
+pub order-6-run : (l : Ledger) → length (l .xids) ≡ 32 → sendAnswer l .number ≡ 0 → (n : ℕ) → (sendAnswer l .passed ≡ n → RunBehind l n) × (RunBehind l n → sendAnswer l .passed ≡ n)
+unfolding sendAnswer
+order-6-run = ledger-conditions.run-is
+
+-- "and is at most the number in flight, so at most 31": those in flight before the send.
+pub order-6-most : (l : Ledger) → length (l .xids) ≡ 32 → sendAnswer l .number ≡ 0 → (sendAnswer l .passed ≤ l .count) × (sendAnswer l .passed ≤ 31)
+unfolding sendAnswer
+order-6-most = ledger-conditions.passed-most
+
+-- "the number of xids passed over": the search for the xid steps on exactly so often, and comes so far behind the last one.
+pub order-6-search : (l : Ledger) → length (l .xids) ≡ 32 → sendAnswer l .number ≡ 0 →
+    StepsOn (sendAnswer l .passed) ((l .last + 1) % 4294967296) (sendAnswer l .xid) (inFlight l)
+    × (sendAnswer l .xid ≡ (l .last + 1 + sendAnswer l .passed) % 4294967296)
+unfolding sendAnswer
+order-6-search = λ l long e. (ledger-conditions.search-is l long e, ledger-conditions.next-is l long e .is)
+
+-- "A refused send reports 0."
+pub order-6-refused : (l : Ledger) → (sendAnswer l .number ≡ 0 → ⊥) → sendAnswer l .passed ≡ 0
+unfolding sendAnswer
+order-6-refused = ledger-conditions.reports-none
+
+-- After any operations from an opening: what a send says is told by the history alone, by the xids sent and not answered.
+pub order-6-history : (last : ℕ) (os : List Operation) → SendSaid last (history (openAnswer last .ledger) os) (sendAnswer (ledgerAfter (openAnswer last .ledger) os))
+order-6-history = ledger-history.next-send
+
+-- Order 6, case by case.
+pub order-6-cases : All Holds passedCases
+order-6-cases = worked.passed

@@ -25,10 +25,10 @@ use Rattle.assembly.specs.Assembly.{canArise, pieceNumber, pieceGoes, pieceBuff
 use Rattle.assembly_state.specs.Words.{stateKind, partsIn, stateWords, withTaken}
 use Rattle.theorems.specs.Calls.{runCalls}
 use Rattle.wire.specs.Fits.{All}
-use Rattle.theorems.specs.Examples.{Holds, entryWords, examples, numbers, edges, returnedCases, pieceAnswers, goesCases, handleWords, listWords, orderCases, echoCases, ledgerCases}
+use Rattle.theorems.specs.Examples.{Holds, entryWords, examples, numbers, edges, returnedCases, pieceAnswers, goesCases, handleWords, listWords, orderCases, echoCases, ledgerCases, passedCases}
 use Rattle.header.specs.Words.{kindIn, headerIn, headerWords}
 use Rattle.c_setup.specs.Words.{agreementWords}
-use Rattle.ledger.specs.Ledger.{openAnswer, isIn, anyTwice, unfit, firstFree, nextXid, spent, sendNumber, sendAnswer, sendLedger, replyNumber, without, replyLedger}
+use Rattle.ledger.specs.Ledger.{openAnswer, isIn, anyTwice, unfit, firstFree, nextXid, spent, sendNumber, xidsBehind, runLength, passedOver, sendAnswer, sendLedger, replyNumber, without, replyLedger}
 use Rattle.ledger.specs.History.{ledgerAfter, history}
 use Rattle.returned.specs.Returned.{any, pairs, chunkPairs, filledBehindGap, mismatch, chunkLength, returnedNumber, returnedAnswer}
 
@@ -69,5 +69,10 @@ echoed = ((refl, refl), ((refl, refl), ((refl, refl), ((refl, refl), ((refl, ref
 
 -- Order 5, case by case.
 pub booked : All Holds ledgerCases
-unfolding All from openAnswer isIn anyTwice unfit firstFree nextXid spent sendNumber sendAnswer sendLedger replyNumber without replyLedger ledgerAfter history
+unfolding All from openAnswer isIn anyTwice unfit firstFree nextXid spent sendNumber xidsBehind runLength passedOver sendAnswer sendLedger replyNumber without replyLedger ledgerAfter history
 booked = (refl, (refl, ((refl, refl), ((refl, refl), ((refl, refl), ((refl, refl), ((refl, refl), ((refl, refl), ((refl, refl), ((refl, refl), ((refl, refl), ((refl, refl), ((refl, refl), ((refl, refl), ((refl, refl), ((refl, refl), ((refl, refl), ((refl, refl), ((refl, refl), ((refl, refl), ((refl, refl), ((refl, refl), ((refl, refl), ((refl, refl), ((refl, refl), ((refl, refl), ((refl, refl), ((refl, refl), ((refl, refl), ((refl, refl), ((refl, refl), ((refl, refl), ((refl, refl), ((refl, refl), ((refl, refl), ((refl, refl), ((refl, refl), ((refl, refl), ((refl, refl), ((refl, refl), ((refl, refl), ((refl, refl), ((refl, refl), ((refl, refl), ((refl, refl), ((refl, refl), ((refl, refl), ((refl, refl), ((refl, refl), ((refl, refl), ((refl, refl), ((refl, refl), ((refl, refl), ((refl, refl), ((refl, refl), ((refl, refl), tt))))))))))))))))))))))))))))))))))))))))))))))))))))))))
+
+-- Order 6, case by case.
+pub passed : All Holds passedCases
+unfolding All from isIn anyTwice unfit firstFree nextXid spent sendNumber xidsBehind runLength passedOver sendAnswer sendLedger
+passed = ((refl, refl), ((refl, refl), ((refl, refl), ((refl, refl), ((refl, refl), ((refl, refl), ((refl, refl), ((refl, refl), ((refl, refl), ((refl, refl), ((refl, refl), ((refl, refl), ((refl, refl), ((refl, refl), ((refl, refl), ((refl, refl), ((refl, refl), ((refl, refl), ((refl, refl), ((refl, refl), ((refl, refl), ((refl, refl), ((refl, refl), ((refl, refl), tt))))))))))))))))))))))))
