@@ -78,6 +78,7 @@ extern "C" {
 #define EOS_MAX_HEADER 1024       /* bytes of a header to be written: room that always suffices */
 #define EOS_MAX_REPLY 28          /* bytes of an error reply: room that always suffices */
 #define EOS_MAX_IN_FLIGHT 32      /* calls of a ledger */
+#define EOS_MAX_PASSED 31         /* xids that one send passes over */
 #define EOS_SETUP_BYTES 8         /* bytes of setup data */
 #define EOS_MIN_SIZE 1024         /* of a send or receive size, which is a multiple of 1,024 */
 #define EOS_MAX_SIZE 262144
@@ -220,6 +221,9 @@ struct eos_ledger {
 struct eos_send_answer {
     uint32_t number;
     uint32_t xid;                 /* of the call; 0 if it is refused, and an xid like any other if it is not */
+    uint32_t passed;              /* how many xids were passed over: of those right behind the last one given, as many as are
+                                     in flight up to the first that is not; at most as many as were in flight, so at most
+                                     EOS_MAX_PASSED; 0 if it is refused */
 };
 
 /* Reads the header of a frame, its lists as they stand. Numbers 1 to 4, then 5, 6, 7, 9, 10 from left to right, then 11. */
@@ -295,7 +299,8 @@ uint32_t eos_returned(const struct eos_header *sent, const struct eos_header *re
 uint32_t eos_ledger_open(uint32_t last, struct eos_ledger *ledger);
 
 /* Sends a call: gives it the next xid, which joins those in flight at their end and is the last one given from then on. It
- * is one more than the last one, 0 behind the largest, and xids in flight are passed over, at most 31. Numbers 17, 23. */
+ * is one more than the last one, 0 behind the largest, and xids in flight are passed over. Answers the number, the xid, and
+ * how many were passed over: so often the search for it stepped on. Numbers 17, 23. */
 struct eos_send_answer eos_ledger_send(struct eos_ledger *ledger);
 
 /* Takes a reply, which names an xid and a grant: the call is in flight no longer, those behind it close the gap in order,

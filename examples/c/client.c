@@ -89,6 +89,7 @@ int main(void)
     receive("gap", &ledger, &sent, frame, serve(call, length, 4095, 100, frame, sizeof frame));
 
     struct eos_send_answer next = eos_ledger_send(&ledger);
-    printf("another %" PRIu32 " call %" PRIu32 "\n", next.number, next.xid);
+    /* How many xids were passed over tells how long the search took: none, since no call is in flight. */
+    printf("another %" PRIu32 " call %" PRIu32 " passed %" PRIu32 "\n", next.number, next.xid, next.passed);
     return 0;
 }

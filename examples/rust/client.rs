@@ -62,7 +62,7 @@ fn receive(name: &str, ledger: &mut Ledger, sent: &Header, frame: &[u8]) {
 
 fn main() -> Result<(), Refusal> {
     let mut ledger = Ledger::open(0x29);
-    let xid = ledger.send()?;
+    let xid = ledger.send()?.xid;
     // Kept until the reply is there: the reply is compared with it.
     let sent = offer(xid);
     let call = written(&sent)?;
@@ -76,6 +76,8 @@ fn main() -> Result<(), Refusal> {
     // has its reply: it is not in flight any more.
     receive("gap", &mut ledger, &sent, &serve(&call, 4095, 100)?);
 
-    println!("another 0 call {}", ledger.send()?);
+    // How many xids were passed over tells how long the search took: none, since no call is in flight.
+    let next = ledger.send()?;
+    println!("another 0 call {} passed {}", next.xid, next.passed);
     Ok(())
 }

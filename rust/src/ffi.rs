@@ -120,6 +120,8 @@ pub struct SendAnswer {
     pub number: u32,
     /// The call's xid; 0 where it may not be sent.
     pub xid: u32,
+    /// How many xids in flight were passed over to it; 0 where it may not be sent.
+    pub passed: u32,
 }
 
 // As many bytes as the fields have together: no holes.
@@ -131,7 +133,7 @@ const _: () = assert!(size_of::<State>() == 16 * 24 + 3 * 8 + 2 * 4);
 const _: () = assert!(size_of::<PieceAnswer>() == 2 * 4 && core::mem::offset_of!(PieceAnswer, goes) == 4);
 const _: () = assert!(size_of::<Landed>() == 5 * 8);
 const _: () = assert!(size_of::<Ledger>() == 35 * 4);
-const _: () = assert!(size_of::<SendAnswer>() == 2 * 4 && core::mem::offset_of!(SendAnswer, xid) == 4);
+const _: () = assert!(size_of::<SendAnswer>() == 3 * 4 && core::mem::offset_of!(SendAnswer, passed) == 8);
 
 extern "C" {
     pub fn eos_read_header(frame: *const u8, frame_len: usize, header: *mut Header) -> u32;

@@ -6,6 +6,18 @@ use crate::ffi;
 /// Calls that may be in flight at once, whatever the grant.
 pub const MAX_IN_FLIGHT: usize = 32;
 
+/// The most xids that one send passes over.
+pub const MAX_PASSED: u32 = 31;
+
+/// A call that may be sent.
+#[derive(Clone, Copy, Debug, PartialEq, Eq)]
+pub struct Sent {
+    pub xid: u32,
+    /// How many xids were passed over: of those right behind the last one given, as many as are in flight up to the first
+    /// that is not. At most as many as were in flight, so at most [`MAX_PASSED`].
+    pub passed: u32,
+}
+
 /// The calls in flight of one connection, the grant and the last xid given. Nobody else can change it, so that 17 does
 /// not come.
 #[derive(Clone, Debug, PartialEq, Eq)]
@@ -20,10 +32,10 @@ impl Ledger {
         Ledger { record: record.expect("opening is never refused") }
     }
 
-    /// Sends a call: its xid. With number 23 there is no credit until a reply comes.
-    pub fn send(&mut self) -> Result<u32, Refusal> {
-        let answer = unsafe { ffi::eos_ledger_send(&mut self.record) };
-        unless_refused(answer.number, answer.xid)
+    /// Sends a call: its xid, and how many were passed over. With number 23 there is no credit until a reply comes.
+    pub fn send(&mut self) -> Result<Sent, Refusal> {
+        let ffi::SendAnswer { number, xid, passed } = unsafe { ffi::eos_ledger_send(&mut self.record) };
+        unless_refused(number, Sent { xid, passed })
     }
 
     /// Takes a reply, with the xid and the credit word of its header: the call is in flight no longer, and the grant is

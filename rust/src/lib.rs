@@ -27,7 +27,7 @@ pub use {
     answer::Refusal,
     assembly::{Assembly, MAX_GOES, MAX_MESSAGE},
     header::{payload, Header, Kind, ReadSegment, Segment, MAX_HEADER},
-    ledger::{Ledger, MAX_IN_FLIGHT},
+    ledger::{Ledger, Sent, MAX_IN_FLIGHT, MAX_PASSED},
     reply::{error_reply, grant, MAX_REPLY},
     returned::Landed,
     setup::{Agreement, Setup, SETUP_BYTES},

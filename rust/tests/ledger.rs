@@ -1,22 +1,27 @@
 //! The calls in flight of a client.
 
-use eoswynnor::{Ledger, Refusal, MAX_IN_FLIGHT};
+use eoswynnor::{ffi, Ledger, Refusal, Sent, MAX_IN_FLIGHT, MAX_PASSED};
 
-const SPENT: Result<u32, Refusal> = Err(Refusal(23));
+const SPENT: Result<Sent, Refusal> = Err(Refusal(23));
 const UNKNOWN: Result<(), Refusal> = Err(Refusal(24));
 const NO_GRANT: Result<(), Refusal> = Err(Refusal(25));
+
+/// A send for which no xid was passed over.
+fn sent(xid: u32) -> Result<Sent, Refusal> {
+    Ok(Sent { xid, passed: 0 })
+}
 
 /// A ledger with these calls in flight, sent one after the other.
 fn with_calls(first: u32, count: u32, grant: u32) -> Ledger {
     let mut ledger = Ledger::open(first.wrapping_sub(2));
-    let before = ledger.send().unwrap();
+    let before = ledger.send().unwrap().xid;
     ledger.reply(before, u32::MAX).unwrap();
     for k in 0..count {
-        assert_eq!(ledger.send(), Ok(first.wrapping_add(k)));
+        assert_eq!(ledger.send(), sent(first.wrapping_add(k)));
     }
     // The grant comes with a reply, so one more call goes and comes back.
     if grant != u32::MAX {
-        let extra = ledger.send().unwrap();
+        let extra = ledger.send().unwrap().xid;
         ledger.reply(extra, grant).unwrap();
     }
     ledger
@@ -26,7 +31,7 @@ fn with_calls(first: u32, count: u32, grant: u32) -> Ledger {
 fn opens_with_one_credit() {
     let mut ledger = Ledger::open(41);
     assert_eq!((ledger.in_flight(), ledger.grant(), ledger.last()), (&[][..], 1, 41));
-    assert_eq!(ledger.send(), Ok(42));
+    assert_eq!(ledger.send(), sent(42));
     assert_eq!(ledger.send(), SPENT);
     assert_eq!((ledger.in_flight(), ledger.last()), (&[42][..], 42));
     assert_eq!(ledger.reply(42, 3), Ok(()));
@@ -36,9 +41,9 @@ fn opens_with_one_credit() {
 #[test]
 fn wraps_behind_the_largest_xid() {
     let mut ledger = Ledger::open(u32::MAX - 2);
-    assert_eq!(ledger.send(), Ok(u32::MAX - 1));
+    assert_eq!(ledger.send(), sent(u32::MAX - 1));
     assert_eq!(ledger.reply(u32::MAX - 1, 8), Ok(()));
-    assert_eq!([ledger.send(), ledger.send(), ledger.send()], [Ok(u32::MAX), Ok(0), Ok(1)]);
+    assert_eq!([ledger.send(), ledger.send(), ledger.send()], [sent(u32::MAX), sent(0), sent(1)]);
     assert_eq!(ledger.in_flight(), [u32::MAX, 0, 1]);
     assert_eq!(ledger.reply(0, 8), Ok(()));
     assert_eq!(ledger.in_flight(), [u32::MAX, 1]);
@@ -51,7 +56,7 @@ fn room_for_32_whatever_the_grant() {
     assert_eq!(ledger.send(), SPENT);
     assert_eq!(ledger, before);
     assert_eq!(ledger.reply(100, 40), Ok(()));
-    assert_eq!(ledger.send(), Ok(132));
+    assert_eq!(ledger.send(), sent(132));
     assert_eq!(ledger.send(), SPENT);
 }
 
@@ -64,7 +69,7 @@ fn a_lower_grant_takes_no_call_back() {
     assert_eq!(ledger.in_flight(), [5, 7, 8]);
     assert_eq!(ledger.reply(8, 3), Ok(()));
     assert_eq!(ledger.in_flight(), [5, 7]);
-    assert_eq!(ledger.send(), Ok(10));
+    assert_eq!(ledger.send(), sent(10));
     assert_eq!(ledger.in_flight(), [5, 7, 10]);
 }
 
@@ -80,4 +85,26 @@ fn refused_replies_change_nothing() {
     assert_eq!(ledger, before);
     assert_eq!(ledger.reply(5, u32::MAX), Ok(()));
     assert_eq!(ledger.grant(), u32::MAX);
+}
+
+#[test]
+fn xids_in_flight_are_passed_over() {
+    // A ledger that was opened gives 4,294,967,296 xids before it meets one again, so these are lent as the C calls have them.
+    let passed = |in_flight: &[u32], grant, last| {
+        let mut record = ffi::Ledger { count: in_flight.len() as u32, grant, last, ..Default::default() };
+        record.xids[..in_flight.len()].copy_from_slice(in_flight);
+        let answer = unsafe { ffi::eos_ledger_send(&mut record) };
+        (answer.number, answer.xid, answer.passed)
+    };
+    let behind = |last: u32, count: u32| (1..=count).map(|k| last.wrapping_add(k)).collect::<Vec<_>>();
+    assert_eq!(passed(&[7, 6], 3, 5), (0, 8, 2));
+    assert_eq!(passed(&behind(5, MAX_PASSED), 32, 5), (0, 37, MAX_PASSED));
+    // Across the largest xid.
+    assert_eq!(passed(&behind(u32::MAX - 2, 4), 9, u32::MAX - 2), (0, 2, 4));
+    // Only the first stretch counts, and only right behind the last one.
+    assert_eq!(passed(&[6, 8, 9], 9, 5), (0, 7, 1));
+    assert_eq!(passed(&[5, 7, 8], 9, 5), (0, 6, 0));
+    // Refused, whatever stands behind the last one.
+    assert_eq!(passed(&[6, 7], 2, 5), (23, 0, 0));
+    assert_eq!(passed(&[6, 6], 3, 5), (17, 0, 0));
 }

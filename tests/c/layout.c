@@ -72,7 +72,8 @@ AT(eos_ledger, count, 128);
 AT(eos_ledger, grant, 132);
 AT(eos_ledger, last, 136);
 
-SIZE(eos_send_answer, 8);
+SIZE(eos_send_answer, 12);
 AT(eos_send_answer, number, 0);
 AT(eos_send_answer, xid, 4);
+AT(eos_send_answer, passed, 8);
 BY_VALUE(eos_send_answer, eos_ledger_send(0));

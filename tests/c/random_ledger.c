@@ -2,15 +2,19 @@
  * random_ledger [ROUNDS [SEED]]: sends and replies on ledgers that were opened, damaged or are random.
  *
  * Each answer and all that is left of the ledger is compared with what is worked out here, step by step, from the words of
- * document 02, order 5. Beside a ledger that was opened goes a list of what was sent and not answered.
+ * document 02, orders 5 and 6. Beside a ledger that was opened goes a list of what was sent and not answered.
  */
 #include "random.h"
 
 #define LEDGER_NUMBERS \
     (BIT(EOS_DONE) | BIT(EOS_STATE_UNFIT) | BIT(EOS_CREDIT_SPENT) | BIT(EOS_XID_UNKNOWN) | BIT(EOS_GRANT_ZERO))
 
-/* Each has to come: a wrap, an xid that was passed over, a ledger with more in flight than its grant that takes a reply. */
-static unsigned wraps, passes, past_grant;
+/* Each has to come: a wrap, within a run that was passed over too; a run behind which more are in flight; a refused send
+ * behind whose last xid a run begins; a ledger with more in flight than its grant that takes a reply. */
+static unsigned wraps, run_wraps, broken_runs, refused_runs, past_grant;
+
+/* How often so many were passed over. */
+static unsigned passed_seen[EOS_MAX_PASSED + 1];
 
 /* ---- The answers, worked out ---- */
 
@@ -40,20 +44,42 @@ static void clear_behind(struct eos_ledger *l)
         l->xids[i] = 0;
 }
 
+/* "the unbroken run of xids in flight that begins right behind the last one given": the place of the first xid behind the
+ * last that is not in flight */
+static uint32_t run_behind(const struct eos_ledger *l)
+{
+    uint8_t in_flight[34] = {0};
+    uint32_t run = 0;
+    for (uint32_t i = 0; i < l->count; i++) {
+        uint64_t far = ((uint64_t)l->xids[i] + 0x100000000 - l->last) % 0x100000000;
+        if (far >= 1 && far <= 33)
+            in_flight[far - 1] = 1;
+    }
+    while (in_flight[run])
+        run++;
+    return run;
+}
+
 static struct eos_send_answer expected_send(struct eos_ledger *l)
 {
-    struct eos_send_answer a = {EOS_DONE, 0};
+    struct eos_send_answer a = {EOS_DONE, 0, 0};
     if (unfit(l))
         a.number = EOS_STATE_UNFIT;
     else if (l->count >= l->grant || l->count >= 32)
         a.number = EOS_CREDIT_SPENT;
-    if (a.number != EOS_DONE)
+    if (a.number != EOS_DONE) {
+        refused_runs += l->count <= 32 && run_behind(l) > 0;
         return a;
+    }
+    a.passed = run_behind(l);
     a.xid = l->last;
     do {
         wraps += a.xid == UINT32_MAX;
         a.xid = a.xid == UINT32_MAX ? 0 : a.xid + 1;
-    } while (place_of(l, a.xid) < l->count && ++passes);
+    } while (place_of(l, a.xid) < l->count);
+    passed_seen[a.passed]++;
+    run_wraps += a.xid > 0 && a.xid < a.passed;
+    broken_runs += a.passed > 0 && place_of(l, a.xid + 1) < l->count;
     l->xids[l->count++] = a.xid;
     l->last = a.xid;
     clear_behind(l);
@@ -86,7 +112,8 @@ static struct eos_send_answer send_one(struct lent lent)
     struct eos_ledger *ledger = (struct eos_ledger *)(void *)lent.bytes, after = *ledger;
     struct eos_send_answer expected = expected_send(&after), a = eos_ledger_send(ledger);
     answered(a.number, BIT(EOS_DONE) | BIT(EOS_STATE_UNFIT) | BIT(EOS_CREDIT_SPENT));
-    CHECK(a.number == expected.number && a.xid == expected.xid);
+    CHECK(a.number == expected.number && a.xid == expected.xid && a.passed == expected.passed);
+    CHECK(a.passed <= EOS_MAX_PASSED);
     CHECK(memcmp(ledger, &after, sizeof after) == 0);
     return a;
 }
@@ -113,7 +140,14 @@ static uint32_t some_last(void)
     return below(2) ? UINT32_MAX - below(40) : edge();
 }
 
-/* Any places, some of them the xids behind the last one. */
+static void exchange_xids(uint32_t *one, uint32_t *two)
+{
+    uint32_t was = *one;
+    *one = *two;
+    *two = was;
+}
+
+/* Any places, some of them the xids behind the last one, not always in their order, and with a gap. */
 static struct eos_ledger some_ledger(void)
 {
     struct eos_ledger l;
@@ -121,9 +155,15 @@ static struct eos_ledger some_ledger(void)
     l.last = some_last();
     l.grant = some_grant();
     l.count = below(8) ? below(34) : edge();
-    uint32_t stretch = below(33), first = below(3);
+    uint32_t stretch = below(33), first = below(2) ? 1 : below(3);
     for (uint32_t i = 0; i < stretch; i++)
         l.xids[i] = l.last + first + i;
+    if (below(2))
+        l.count = stretch;
+    if (below(2))
+        exchange_xids(&l.xids[below(32)], &l.xids[below(32)]);
+    if (below(4) == 0)
+        l.xids[below(32)] += 64;
     if (below(4) == 0)
         l.xids[below(32)] = l.xids[below(32)];
     if (below(4) == 0)
@@ -174,8 +214,11 @@ static void one_round(void)
     give_back(sends);
     if (round_at % 16 == 0)
         history();
-    if (round_at + 1 == 10000)
-        CHECK(wraps > 0 && passes > 0 && past_grant > 0);
+    if (round_at + 1 == 10000) {
+        CHECK(wraps > 0 && run_wraps > 0 && broken_runs > 0 && refused_runs > 0 && past_grant > 0);
+        for (uint32_t n = 0; n <= EOS_MAX_PASSED; n++)
+            CHECK(passed_seen[n] > 0);
+    }
 }
 
 int main(int argc, char **argv)
