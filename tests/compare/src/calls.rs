@@ -1,5 +1,6 @@
 //! What an implementation under comparison has: the calls of include/eoswynnor.h. Each answers its
-//! number, for a piece with the goes beside it, for a send with the xid, and stores what it makes.
+//! number, for a piece with the goes beside it, for a send with the xid and the number of those passed
+//! over, and stores what it makes.
 //!
 //! All is lent for writing, also what a call may only read: an implementation that changes it can
 //! then be written, and the comparison afterwards is one that the compiler may not leave out.

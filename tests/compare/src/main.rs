@@ -2,9 +2,9 @@
 //! reassembly, what a reply says was landed, ledger) with a second implementation.
 //! Build with EOS_LIB_DIR naming the folder of libeoswynnor.a; options: --cases N (cases in each
 //! random family), --seed S, --vectors FILE (else what EOS_VECTORS names).
-//! One line for each family, then the numbers, goes and forms seen and the total; the first
-//! difference is printed with its input and ends the run with status 1, as does one of them never
-//! seen, or a number seen that its call never gives (8 is given by none).
+//! One line for each family, then the numbers, goes, counts of xids passed over and forms seen and the
+//! total; the first difference is printed with its input and ends the run with status 1, as does one
+//! of them never seen, or a number seen that its call never gives (8 is given by none).
 
 #[cfg(not(library))]
 compile_error!("set EOS_LIB_DIR to the folder that holds libeoswynnor.a");

@@ -1,10 +1,10 @@
-//! Families for the ledger of credits: document 02, order 5.
+//! Families for the ledger of credits: document 02, orders 5 and 6.
 
 use super::edges;
 use crate::calls::Calls;
 use crate::check::{Checker, Operation, Outcome, Start};
 use crate::convert::{flatten_ledger, unflatten_ledger};
-use crate::reference::ledger::{self as reference, ROOM};
+use crate::reference::ledger::{self as reference, Sent, ROOM};
 use crate::rng::Rng;
 use crate::words::{bytes, bytes_mut, Words};
 use eoswynnor::ffi::Ledger;
@@ -37,16 +37,17 @@ const WAYS: usize = 5;
 
 impl Rng {
     /// The same ledger to every call: the ignored places hold zeros, noise, copies of those in flight, the
-    /// next xids, or all the same.
+    /// next xids that are not in flight, or all the same.
     fn filled_behind(&mut self, ledger: &Ledger, way: usize) -> Ledger {
         let (mut ledger, end) = (*ledger, end(ledger));
         let (in_flight, behind) = ledger.xids.split_at_mut(end);
-        for (xid, next) in behind.iter_mut().zip(1..) {
+        let next = (1..).map(|step| ledger.last.wrapping_add(step)).filter(|xid| !in_flight.contains(xid));
+        for (xid, next) in behind.iter_mut().zip(next) {
             *xid = match way {
                 0 => 0,
                 1 => self.any(),
                 2 if end > 0 => in_flight[self.below(end)],
-                3 => ledger.last.wrapping_add(next),
+                3 => next,
                 _ => ledger.last,
             };
         }
@@ -108,6 +109,37 @@ impl Rng {
         let (last, count) = (self.last(), [self.below(ROOM + 1), self.below(4), ROOM - self.below(4)]);
         let count = count[self.below(3)];
         let ledger = flat(&self.in_flight(count, last), self.grant_near(count), last);
+        self.noisy_ledger(&ledger)
+    }
+
+    /// So many xids, none twice: unbroken stretches and gaps between them, often from right behind the last
+    /// one given on.
+    fn in_stretches(&mut self, count: usize, last: u32) -> Vec<u32> {
+        let mut next = match self.below(8) {
+            0..=4 => last.wrapping_add(1),
+            5 => last.wrapping_sub(self.below(4) as u32),
+            6 => last.wrapping_add(2),
+            _ => last.wrapping_sub(self.below(40) as u32),
+        };
+        let mut xids: Vec<u32> = Vec::new();
+        while xids.len() < count {
+            let (left, gap) = (count - xids.len(), [1, 1 + self.below(3)][self.below(2)]);
+            let length = left.min([1 + self.below(3), 1 + self.below(12), left][self.below(3)]);
+            xids.extend(rising(next, length));
+            next = next.wrapping_add((length + gap) as u32);
+        }
+        if self.below(2) == 0 {
+            self.reorder(&mut xids);
+        }
+        xids
+    }
+
+    /// One that does not get 17, in stretches; mostly a call may be sent.
+    pub fn ledger_of_stretches(&mut self) -> Ledger {
+        let (last, count) = (self.last(), [self.below(ROOM + 1), self.below(6), ROOM - self.below(4)]);
+        let count = count[self.below(3)];
+        let grant = [count as u32 + 1, count as u32 + 1, self.grant_near(count)][self.below(3)];
+        let ledger = flat(&self.in_stretches(count, last), grant, last);
         self.noisy_ledger(&ledger)
     }
 
@@ -173,12 +205,13 @@ fn put(ledger: &mut Ledger, at: usize, value: u32) {
     bytes_mut(ledger)[4 * at..][..4].copy_from_slice(&value.to_ne_bytes());
 }
 
-/// An operation worked by hand: the xid, 0 for a reply, and the ledger afterwards, or the number.
+/// An operation worked by hand: what it gives, for a reply no xid and none passed over, and the ledger
+/// afterwards, or the number.
 pub struct Worked {
     pub name: &'static str,
     pub before: Ledger,
     pub operation: Operation,
-    pub want: Result<(u32, Ledger), u32>,
+    pub want: Result<(Sent, Ledger), u32>,
 }
 
 impl Worked {
@@ -194,14 +227,20 @@ impl Worked {
     }
 }
 
+/// A send: the xid and how many are passed over, or the number. It joins at the end and is the last.
+fn send(
+    name: &'static str,
+    in_flight: &[u32],
+    grant: u32,
+    last: u32,
+    want: Result<(u32, u32), u32>,
+) -> Worked {
+    let after = |xid| flat(&[in_flight, &[xid]].concat(), grant, xid);
+    let want = want.map(|(xid, passed)| (Sent { xid, passed }, after(xid)));
+    Worked { name, before: flat(in_flight, grant, last), operation: Send, want }
+}
+
 pub fn sends() -> Vec<Worked> {
-    // The xid, or the number; it joins at the end and is the last.
-    let send = |name, in_flight: &[u32], grant, last, want: Result<u32, u32>| Worked {
-        name,
-        before: flat(in_flight, grant, last),
-        operation: Send,
-        want: want.map(|xid| (xid, flat(&[in_flight, &[xid]].concat(), grant, xid))),
-    };
     let run = |first: u32| rising(first, 31);
     let full = rising(100, 32);
     let backwards: Vec<u32> = run(8).into_iter().rev().collect();
@@ -209,58 +248,58 @@ pub fn sends() -> Vec<Worked> {
     broken[20] = 5;
     vec![
         // The next xid.
-        send("first", &[], 1, 41, Ok(42)),
-        send("first, behind 0", &[], 1, 0, Ok(1)),
-        send("the largest xid", &[], 1, MAX - 1, Ok(MAX)),
-        send("wrapping to 0", &[], 1, MAX, Ok(0)),
-        send("the last in flight", &[7], 2, 7, Ok(8)),
-        send("the last not in flight", &[5, 6], 3, 9, Ok(10)),
-        send("others far behind", &[3_000_000_000, 9], 3, 41, Ok(42)),
-        send("behind the last and not the greatest", &[7, 900, 8], 4, 8, Ok(9)),
-        send("behind the last and not the newest", &[7, 8, 3], 4, 8, Ok(9)),
-        send("0 free below the last", &[1, 2], 3, 2, Ok(3)),
-        send("beyond 16 bits", &[0x2_0008], 2, 0x1_0007, Ok(0x1_0008)),
+        send("first", &[], 1, 41, Ok((42, 0))),
+        send("first, behind 0", &[], 1, 0, Ok((1, 0))),
+        send("the largest xid", &[], 1, MAX - 1, Ok((MAX, 0))),
+        send("wrapping to 0", &[], 1, MAX, Ok((0, 0))),
+        send("the last in flight", &[7], 2, 7, Ok((8, 0))),
+        send("the last not in flight", &[5, 6], 3, 9, Ok((10, 0))),
+        send("others far behind", &[3_000_000_000, 9], 3, 41, Ok((42, 0))),
+        send("behind the last and not the greatest", &[7, 900, 8], 4, 8, Ok((9, 0))),
+        send("behind the last and not the newest", &[7, 8, 3], 4, 8, Ok((9, 0))),
+        send("0 free below the last", &[1, 2], 3, 2, Ok((3, 0))),
+        send("beyond 16 bits", &[0x2_0008], 2, 0x1_0007, Ok((0x1_0008, 0))),
         // Passing over.
-        send("the next in flight", &[8], 2, 7, Ok(9)),
-        send("two passed over", &[8, 9], 3, 7, Ok(10)),
-        send("two passed over, turned round", &[9, 8], 3, 7, Ok(10)),
-        send("three passed over, mixed", &[10, 8, 9], 4, 7, Ok(11)),
-        send("a run that is broken", &[8, 10], 3, 7, Ok(9)),
-        send("a second run behind the first", &[8, 9, 11, 12], 5, 7, Ok(10)),
-        send("a run not right behind the last", &[9, 10], 3, 7, Ok(8)),
-        send("the last and the next in flight", &[7, 8], 3, 7, Ok(9)),
-        send("31 passed over", &run(8), 32, 7, Ok(39)),
-        send("31 passed over, turned round", &backwards, 32, 7, Ok(39)),
-        send("20 passed over", &broken, 32, 7, Ok(28)),
-        send("the largest passed over", &[MAX], 2, MAX - 1, Ok(0)),
-        send("0 passed over", &[0], 2, MAX, Ok(1)),
-        send("0 and 1 passed over", &[0, 1], 3, MAX, Ok(2)),
-        send("passing over the wrap", &[MAX, 0, 1], 4, MAX - 1, Ok(2)),
-        send("passing over the wrap, turned round", &[1, 0, MAX], 4, MAX - 1, Ok(2)),
-        send("a run broken at 0", &[MAX, 1], 3, MAX - 1, Ok(0)),
-        send("a run broken behind 0", &[MAX, 0, 2], 4, MAX - 1, Ok(1)),
-        send("31 passed over across the wrap", &run(MAX - 9), 32, MAX - 10, Ok(21)),
-        send("31 passed over behind the wrap", &run(0), 32, MAX, Ok(31)),
-        send("31 passed over before the wrap", &run(MAX - 30), 32, MAX - 31, Ok(0)),
+        send("the next in flight", &[8], 2, 7, Ok((9, 1))),
+        send("two passed over", &[8, 9], 3, 7, Ok((10, 2))),
+        send("two passed over, turned round", &[9, 8], 3, 7, Ok((10, 2))),
+        send("three passed over, mixed", &[10, 8, 9], 4, 7, Ok((11, 3))),
+        send("a run that is broken", &[8, 10], 3, 7, Ok((9, 1))),
+        send("a second run behind the first", &[8, 9, 11, 12], 5, 7, Ok((10, 2))),
+        send("a run not right behind the last", &[9, 10], 3, 7, Ok((8, 0))),
+        send("the last and the next in flight", &[7, 8], 3, 7, Ok((9, 1))),
+        send("31 passed over", &run(8), 32, 7, Ok((39, 31))),
+        send("31 passed over, turned round", &backwards, 32, 7, Ok((39, 31))),
+        send("20 passed over", &broken, 32, 7, Ok((28, 20))),
+        send("the largest passed over", &[MAX], 2, MAX - 1, Ok((0, 1))),
+        send("0 passed over", &[0], 2, MAX, Ok((1, 1))),
+        send("0 and 1 passed over", &[0, 1], 3, MAX, Ok((2, 2))),
+        send("passing over the wrap", &[MAX, 0, 1], 4, MAX - 1, Ok((2, 3))),
+        send("passing over the wrap, turned round", &[1, 0, MAX], 4, MAX - 1, Ok((2, 3))),
+        send("a run broken at 0", &[MAX, 1], 3, MAX - 1, Ok((0, 1))),
+        send("a run broken behind 0", &[MAX, 0, 2], 4, MAX - 1, Ok((1, 2))),
+        send("31 passed over across the wrap", &run(MAX - 9), 32, MAX - 10, Ok((21, 31))),
+        send("31 passed over behind the wrap", &run(0), 32, MAX, Ok((31, 31))),
+        send("31 passed over before the wrap", &run(MAX - 30), 32, MAX - 31, Ok((0, 31))),
         // How many may be in flight.
-        send("one below the grant", &[5, 6], 3, 6, Ok(7)),
+        send("one below the grant", &[5, 6], 3, 6, Ok((7, 0))),
         send("at the grant", &[5, 6], 2, 6, Err(23)),
         send("at a grant of 1", &[7], 1, 7, Err(23)),
         send("above the grant", &[5, 6, 7], 1, 7, Err(23)),
         send("far above the grant", &full, 1, 131, Err(23)),
-        send("the 31st", &full[..30], 31, 129, Ok(130)),
+        send("the 31st", &full[..30], 31, 129, Ok((130, 0))),
         send("31 at the grant", &full[..31], 31, 130, Err(23)),
-        send("the 32nd", &full[..31], 32, 130, Ok(131)),
-        send("the 32nd below a grant of 40", &full[..31], 40, 130, Ok(131)),
+        send("the 32nd", &full[..31], 32, 130, Ok((131, 0))),
+        send("the 32nd below a grant of 40", &full[..31], 40, 130, Ok((131, 0))),
         send("32 in flight", &full, 32, 131, Err(23)),
         send("32 in flight below a grant of 33", &full, 33, 131, Err(23)),
         send("32 in flight below a grant of 40", &full, 40, 131, Err(23)),
         send("32 in flight below the largest grant", &full, MAX, 131, Err(23)),
-        send("the largest grant", &[7], MAX, 7, Ok(8)),
-        send("a grant of 2^31", &[7], 1 << 31, 7, Ok(8)),
-        send("a grant of 2^16", &[7], 1 << 16, 7, Ok(8)),
-        send("a grant of 256", &[7], 256, 7, Ok(8)),
-        send("more in flight than the low byte of the grant", &[5, 6, 7], 0x101, 7, Ok(8)),
+        send("the largest grant", &[7], MAX, 7, Ok((8, 0))),
+        send("a grant of 2^31", &[7], 1 << 31, 7, Ok((8, 0))),
+        send("a grant of 2^16", &[7], 1 << 16, 7, Ok((8, 0))),
+        send("a grant of 256", &[7], 256, 7, Ok((8, 0))),
+        send("more in flight than the low byte of the grant", &[5, 6, 7], 0x101, 7, Ok((8, 0))),
         // 17, before 23.
         send("a ledger of grant 0", &[], 0, 7, Err(17)),
         send("a ledger of grant 0, one in flight", &[7], 0, 7, Err(17)),
@@ -280,12 +319,91 @@ pub fn sends() -> Vec<Worked> {
         send("one twice, once round all xids", &[7, 0x6000_0000, 0xc000_0000, 7], 5, 8, Err(17)),
         send("first and 32nd the same", &[&full[..31], &full[..1]].concat(), 40, 131, Err(17)),
         send("31st and 32nd the same", &[&full[..31], &full[30..31]].concat(), 40, 131, Err(17)),
-        send("equal low halves", &[0x1_0007, 0x2_0007], 3, 7, Ok(8)),
-        send("equal high halves", &[0x1_0007, 0x1_0008], 3, 7, Ok(8)),
+        send("equal low halves", &[0x1_0007, 0x2_0007], 3, 7, Ok((8, 0))),
+        send("equal high halves", &[0x1_0007, 0x1_0008], 3, 7, Ok((8, 0))),
         // Nothing else gets 17.
-        send("falling", &[9, 8, 7], 4, 9, Ok(10)),
-        send("greater than the last", &[50, 60], 3, 7, Ok(8)),
-        send("0 in flight", &[0], 2, 0, Ok(1)),
+        send("falling", &[9, 8, 7], 4, 9, Ok((10, 0))),
+        send("greater than the last", &[50, 60], 3, 7, Ok((8, 0))),
+        send("0 in flight", &[0], 2, 0, Ok((1, 0))),
+    ]
+}
+
+/// Order 6: how many are passed over, and where a refused send reports 0.
+pub fn passing() -> Vec<Worked> {
+    let run = |count| rising(8, count);
+    let mixed = |xids: Vec<u32>| (0..31).map(|at| xids[7 * at % 31]).collect::<Vec<_>>();
+    let full = run(32);
+    let without = |xid: u32| full.iter().copied().filter(|other| *other != xid).collect::<Vec<_>>();
+    let twice = [&full[..31], &[8]].concat();
+    let wrapping = rising(MAX - 9, 32);
+    vec![
+        // Where the run begins: behind the last one given, in flight or not.
+        send("a run behind a last in flight", &[6, 7, 8, 9], 5, 7, Ok((10, 2))),
+        send("a run behind a last answered", &[6, 8, 9], 4, 7, Ok((10, 2))),
+        send("a run up to the last", &[4, 5, 6, 7], 5, 7, Ok((8, 0))),
+        send("a run up to a last answered", &[4, 5, 6], 4, 7, Ok((8, 0))),
+        send("a longer run before the last", &[3, 4, 5, 6, 8], 6, 7, Ok((9, 1))),
+        send("a run behind the newest", &[8, 21, 22, 20], 5, 7, Ok((9, 1))),
+        send("a run behind the oldest", &[20, 8, 21, 22], 5, 7, Ok((9, 1))),
+        send("a run from 0 on", &[0, 1, 2, 8], 5, 7, Ok((9, 1))),
+        send("a run up to the largest", &[MAX - 1, MAX, 8], 4, 7, Ok((9, 1))),
+        // Where it ends: before the first that is not in flight.
+        send("a longer run behind a gap", &[8, 10, 11, 12], 5, 7, Ok((9, 1))),
+        send("a shorter run behind a gap", &[8, 9, 10, 12], 5, 7, Ok((11, 3))),
+        send("a gap of two", &[8, 9, 12, 13], 5, 7, Ok((10, 2))),
+        send("three stretches", &[8, 9, 11, 13, 14, 15], 7, 7, Ok((10, 2))),
+        send("three stretches, mixed", &[15, 9, 13, 8, 14, 11], 7, 7, Ok((10, 2))),
+        send("all behind a gap", &rising(9, 31), 32, 7, Ok((8, 0))),
+        send("the second of 32 free", &without(9), 32, 7, Ok((9, 1))),
+        send("the 16th of 32 free", &without(23), 32, 7, Ok((23, 15))),
+        send("the 17th of 32 free", &without(24), 32, 7, Ok((24, 16))),
+        send("the 31st of 32 free", &without(38), 32, 7, Ok((38, 30))),
+        send("the 31st of 32 free, mixed", &mixed(without(38)), 32, 7, Ok((38, 30))),
+        send("equal low halves in a run", &[8, 0x1_0009], 3, 7, Ok((9, 1))),
+        // All in flight passed over.
+        send("15 in flight passed over", &run(15), 16, 7, Ok((23, 15))),
+        send("16 in flight passed over", &run(16), 17, 7, Ok((24, 16))),
+        send("17 in flight passed over", &run(17), 18, 7, Ok((25, 17))),
+        send("30 in flight passed over", &run(30), 31, 7, Ok((38, 30))),
+        send("31 in flight passed over, mixed", &mixed(run(31)), 32, 7, Ok((39, 31))),
+        send("31 in flight passed over, grant 33", &run(31), 33, 7, Ok((39, 31))),
+        send("two passed over, the largest grant", &[8, 9], MAX, 7, Ok((10, 2))),
+        // In any order, others between them.
+        send("five passed over, mixed", &[12, 9, 11, 8, 10], 6, 7, Ok((13, 5))),
+        send("others between those of a run", &[8, 500, 9, 3, 10], 6, 7, Ok((11, 3))),
+        send("the rest of a run first", &[9, 10, 500, 8], 5, 7, Ok((11, 3))),
+        send("a run in two parts, exchanged", &[10, 11, 8, 9], 5, 7, Ok((12, 4))),
+        // Across the wrap.
+        send("a wrapping run, mixed", &[0, MAX - 1, 2, MAX, 1], 6, MAX - 2, Ok((3, 5))),
+        send("a wrapping run that is broken", &[MAX - 1, MAX, 0, 1, 3], 6, MAX - 2, Ok((2, 4))),
+        send("a wrapping run behind a last in flight", &[MAX - 2, MAX - 1, MAX, 0], 5, MAX - 2, Ok((1, 3))),
+        send("a wrapping run, 0 free", &[MAX - 1, MAX, 1, 2], 5, MAX - 2, Ok((0, 2))),
+        send("a wrapping run, the largest free", &[MAX - 1, 0, 1], 4, MAX - 2, Ok((MAX, 1))),
+        send("a run behind the largest, broken", &[0, 2], 3, MAX, Ok((1, 1))),
+        send("a run through a last that is the largest", &[MAX - 1, MAX, 0], 4, MAX, Ok((1, 1))),
+        send("a run behind 0", &[1, 2], 3, 0, Ok((3, 2))),
+        send("30 passed over across the wrap", &rising(MAX - 9, 30), 31, MAX - 10, Ok((20, 30))),
+        // Where halves of all xids and of a word meet.
+        send("a run across 2^31", &rising(0x7fff_ffff, 3), 4, 0x7fff_fffe, Ok((0x8000_0002, 3))),
+        send("a run behind 2^31", &[0x8000_0001, 0x8000_0000], 3, 0x7fff_ffff, Ok((0x8000_0002, 2))),
+        send("a run across 2^16", &[0xffff, 0x1_0000], 3, 0xfffe, Ok((0x1_0001, 2))),
+        // 23.
+        send("at the grant before a run", &[8, 9], 2, 7, Err(23)),
+        send("at a grant of 1 before a run", &[8], 1, 7, Err(23)),
+        send("above the grant before a run", &[9, 10, 8], 1, 7, Err(23)),
+        send("at the grant before a wrapping run", &[MAX, 0], 2, MAX - 1, Err(23)),
+        send("31 at the grant before a run", &run(31), 31, 7, Err(23)),
+        send("31 at the grant before a broken run", &without(10), 31, 7, Err(23)),
+        send("a run of 32", &full, 32, 7, Err(23)),
+        send("a run of 32 below a grant of 40", &full, 40, 7, Err(23)),
+        send("a wrapping run of 32 below the largest grant", &wrapping, MAX, MAX - 10, Err(23)),
+        // 17.
+        send("a ledger of grant 0 before a run", &[8, 9], 0, 7, Err(17)),
+        send("a ledger of grant 0 before a run of 32", &full, 0, 7, Err(17)),
+        send("one of a run twice", &[8, 9, 8], 4, 7, Err(17)),
+        send("one twice before a run", &[5, 5, 8, 9], 5, 7, Err(17)),
+        send("one twice before a run, at the grant", &[5, 5, 8, 9], 4, 7, Err(17)),
+        send("one of a run twice among 32", &twice, 40, 7, Err(17)),
     ]
 }
 
@@ -296,7 +414,7 @@ pub fn replies() -> Vec<Worked> {
         name,
         before: flat(in_flight, grant, last),
         operation: Reply { xid, grant: new },
-        want: want.map(|in_flight| (0, flat(in_flight, new, last))),
+        want: want.map(|in_flight| (Sent::default(), flat(in_flight, new, last))),
     };
     let full = rising(100, 32);
     let without = |at: usize| [&full[..at], &full[at + 1..]].concat();
@@ -380,6 +498,8 @@ pub fn overfull() -> Vec<Worked> {
             Ledger { count, grant: MAX, ..full },
             Ledger { count, grant: 0, ..full },
             Ledger { count, ..flat(&[], 40, 7) },
+            // Before a run.
+            Ledger { count, last: 99, ..full },
         ];
         for before in ledgers {
             let asked = [(100, 1), (131, 1), (0, 1), (7, 1), (100, 0), (7, 0)];
@@ -392,11 +512,12 @@ pub fn overfull() -> Vec<Worked> {
     list
 }
 
-/// A history by hand: the last xid named, each operation with its xid or number, and the ledger afterwards.
+/// A history by hand: where it begins, each operation with what it gives or its number, and the ledger
+/// afterwards.
 pub struct Told {
     pub name: &'static str,
-    pub last: u32,
-    pub steps: Vec<(Operation, Result<u32, u32>)>,
+    pub start: Start,
+    pub steps: Vec<(Operation, Result<Sent, u32>)>,
     pub after: Ledger,
 }
 
@@ -404,20 +525,24 @@ impl Told {
     pub fn run<C: Calls>(&self, check: &mut Checker<C>) -> Outcome {
         let (operations, answers): (Vec<_>, Vec<_>) = self.steps.iter().copied().unzip();
         check
-            .worked_history(self.last, &operations, &answers, &self.after)
-            .and_then(|()| check.history(Start::Open(self.last), &operations))
-            .and_then(|()| check.accounted(Start::Open(self.last), &operations))
+            .worked_history(self.start, &operations, &answers, &self.after)
+            .and_then(|()| check.history(self.start, &operations))
+            .and_then(|()| check.accounted(self.start, &operations))
             .map_err(|what| format!("{}: {what}", self.name))
     }
 }
 
 pub fn histories() -> Vec<Told> {
-    type Step = (Operation, Result<u32, u32>);
-    let sent = |xid| (Send, Ok(xid));
+    type Step = (Operation, Result<Sent, u32>);
+    let passing = |xid, passed| (Send, Ok(Sent { xid, passed }));
+    let sent = |xid| passing(xid, 0);
     let full: Step = (Send, Err(23));
-    let reply = |xid, grant| (Reply { xid, grant }, Ok(0));
+    let reply = |xid, grant| (Reply { xid, grant }, Ok(Sent::default()));
     let refused = |xid, grant, number| (Reply { xid, grant }, Err(number));
-    let case = |name, last, steps: &[Step], after| Told { name, last, steps: steps.to_vec(), after };
+    let told = |name, start, steps: &[Step], after| Told { name, start, steps: steps.to_vec(), after };
+    // From an opening none is passed over before all xids have been given.
+    let case = |name, last, steps: &[Step], after| told(name, Start::Open(last), steps, after);
+    let given = |name, before, steps: &[Step], after| told(name, Start::Given(before), steps, after);
     let many = |xids: Vec<u32>| xids.into_iter().map(sent).collect::<Vec<_>>();
     let to_full = [&[sent(1), reply(1, 40)], &many(rising(2, 32))[..], &[full]].concat();
     vec![
@@ -544,12 +669,79 @@ pub fn histories() -> Vec<Told> {
             ],
             flat(&[12, 15, 16], 5, 16),
         ),
+        given(
+            "a run passed over",
+            flat(&[8, 10, 9], 5, 7),
+            &[passing(11, 3), sent(12), full, reply(11, 5), sent(13)],
+            flat(&[8, 10, 9, 12, 13], 5, 13),
+        ),
+        given(
+            "gaps filled one after the other",
+            flat(&[14, 9, 8, 13, 11], 10, 7),
+            &[passing(10, 2), passing(12, 1), passing(15, 2), sent(16), sent(17), full],
+            flat(&[14, 9, 8, 13, 11, 10, 12, 15, 16, 17], 10, 17),
+        ),
+        given(
+            "a run that a reply breaks",
+            flat(&[8, 9, 10, 11], 8, 7),
+            &[reply(9, 8), passing(9, 1), passing(12, 2)],
+            flat(&[8, 10, 11, 9, 12], 8, 12),
+        ),
+        given(
+            "a run whose first leaves",
+            flat(&[8, 9, 10], 8, 7),
+            &[reply(8, 8), sent(8), passing(11, 2)],
+            flat(&[9, 10, 8, 11], 8, 11),
+        ),
+        given(
+            "a run that is answered",
+            flat(&[8, 9], 4, 7),
+            &[reply(9, 4), reply(8, 4), sent(8), sent(9)],
+            flat(&[8, 9], 4, 9),
+        ),
+        given(
+            "refused before a run",
+            flat(&[8, 9, 10], 3, 7),
+            &[
+                full,
+                full,
+                reply(10, 3),
+                passing(10, 2),
+                full,
+                reply(8, 1),
+                full,
+                reply(9, 1),
+                full,
+                reply(10, 2),
+                sent(11),
+            ],
+            flat(&[11], 2, 11),
+        ),
+        given(
+            "runs across the wrap",
+            flat(&[1, MAX, 0, 3], 8, MAX - 1),
+            &[passing(2, 3), passing(4, 1), sent(5)],
+            flat(&[1, MAX, 0, 3, 2, 4, 5], 8, 5),
+        ),
+        given(
+            "every other one across the wrap",
+            flat(&[MAX, 1, 3], 9, MAX - 2),
+            &[sent(MAX - 1), passing(0, 1), passing(2, 1), passing(4, 1), sent(5)],
+            flat(&[MAX, 1, 3, MAX - 1, 0, 2, 4, 5], 9, 5),
+        ),
+        given(
+            "31 passed over, then one answered",
+            flat(&rising(8, 31), 32, 7),
+            &[passing(39, 31), full, reply(8, 32), sent(40)],
+            flat(&rising(9, 32), 32, 40),
+        ),
     ]
 }
 
 pub fn by_hand<C: Calls>(check: &mut Checker<C>, rng: &mut Rng) -> Outcome {
     check.family("ledger by hand");
-    [sends(), replies(), overfull()].iter().flatten().try_for_each(|case| case.run(check, rng))?;
+    let cases = [sends(), passing(), replies(), overfull()];
+    cases.iter().flatten().try_for_each(|case| case.run(check, rng))?;
     check.family("ledger histories by hand");
     histories().iter().try_for_each(|case| case.run(check))
 }
@@ -673,6 +865,41 @@ pub fn runs<C: Calls>(check: &mut Checker<C>, rng: &mut Rng) -> Outcome {
                 check.operate(&ledger, Send)?;
             }
         }
+    }
+    Ok(())
+}
+
+/// Every set of so many xids in a row, in any order, that begin with the one before the last one given: the
+/// wrap at each of their places, 2^16 or 2^31 among them, or neither. One more call may be sent.
+fn sets(rng: &mut Rng, nearby: u32) -> Vec<Ledger> {
+    let mut ledgers = Vec::new();
+    for last in (0..nearby).map(|back| 1u32.wrapping_sub(back)).chain([41, 0xfffd, 0x7fff_fffd]) {
+        for set in 0..1u32 << nearby {
+            let near = (0..nearby).filter(|at| set >> at & 1 == 1);
+            let mut xids: Vec<u32> = near.map(|at| last.wrapping_add(at).wrapping_sub(1)).collect();
+            rng.reorder(&mut xids);
+            ledgers.push(rng.noisy_ledger(&flat(&xids, xids.len() as u32 + 1, last)));
+        }
+    }
+    ledgers
+}
+
+/// Every set around the last one given; then stretches of any length.
+pub fn stretches<C: Calls>(check: &mut Checker<C>, rng: &mut Rng, cases: u64) -> Outcome {
+    check.family("ledger every set nearby");
+    for ledger in sets(rng, 10) {
+        // Below the grant, at it, and with none.
+        for grant in [ledger.grant, ledger.count, 0] {
+            check.operate(&Ledger { grant, ..ledger }, Send)?;
+        }
+    }
+    check.family("ledger random stretches");
+    for _ in 0..cases {
+        let mut ledger = rng.ledger_of_stretches();
+        if rng.below(8) == 0 {
+            rng.spoil_ledger(&mut ledger);
+        }
+        check.operate(&ledger, Send)?;
     }
     Ok(())
 }
@@ -806,7 +1033,7 @@ pub fn short_lives<C: Calls>(check: &mut Checker<C>) -> Outcome {
     Ok(())
 }
 
-/// From openings, and from any ledger on: there xids are passed over too.
+/// From openings, and from any ledger on: there xids are passed over too, and again behind those given since.
 pub fn lives<C: Calls>(check: &mut Checker<C>, rng: &mut Rng, cases: u64) -> Outcome {
     check.family("ledger histories");
     for _ in 0..cases / 40 {
@@ -822,6 +1049,23 @@ pub fn lives<C: Calls>(check: &mut Checker<C>, rng: &mut Rng, cases: u64) -> Out
         let operations = rng.operations(&unflatten_ledger(&ledger), length);
         check.history(Start::Given(ledger), &operations)?;
     }
+    // Short ones: runs are soon passed over.
+    check.family("ledger histories over runs");
+    for _ in 0..cases / 10 {
+        let (ledger, length) = (rng.ledger_of_stretches(), 1 + rng.below(40));
+        let operations = rng.operations(&unflatten_ledger(&ledger), length);
+        check.history(Start::Given(ledger), &operations)?;
+    }
+    // Sends until all gaps are filled, behind a reply that makes one, and one more than may be sent.
+    check.family("ledger histories from sets");
+    for ledger in sets(rng, 7) {
+        let start = Start::Given(Ledger { grant: ledger.count + 7, ..ledger });
+        check.history(start, &[Send; 8])?;
+        for &xid in &ledger.xids[..end(&ledger)] {
+            let reply = Reply { xid, grant: ledger.count + 6 };
+            check.history(start, &[&[reply], &[Send; 8][..]].concat())?;
+        }
+    }
     Ok(())
 }
 
@@ -832,6 +1076,7 @@ pub fn run<C: Calls>(check: &mut Checker<C>, rng: &mut Rng, cases: u64) -> Outco
     pairs(check, rng)?;
     leavings(check, rng)?;
     runs(check, rng)?;
+    stretches(check, &mut rng.aside(), cases)?;
     conditions(check, rng)?;
     damage(check, rng, cases)?;
     random(check, rng, cases)?;

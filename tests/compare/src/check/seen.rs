@@ -1,6 +1,6 @@
 //! What an implementation answered so far, and what the families must draw from it.
 
-use eoswynnor::ffi::PieceAnswer;
+use eoswynnor::ffi::{PieceAnswer, SendAnswer};
 use std::collections::BTreeMap;
 
 /// Where answer numbers are counted; Replied is the reader's number that a reply was made for.
@@ -84,8 +84,21 @@ pub enum Form {
     LandedAbove32Bits,
     OneHeaderAsBoth,
     XidAcrossWrap,
-    PassedOver31,
     PassedAcrossWrap,
+    RunAcrossWrap,
+    RunBroken,
+    RunOutOfOrder,
+    RunBehindLast,
+    RunLastAnswered,
+    RunOnBehind,
+    AllPassedOver,
+    NonePassedOver,
+    NoneButRunBehind,
+    RunAtGrant,
+    RunOf32,
+    RunWithGrant0,
+    RunWithOneTwice,
+    RunOverfull,
     LastPlaceTaken,
     RoomFullBelowGrant,
     SendClears,
@@ -103,9 +116,12 @@ pub enum Form {
     HistoryAcrossWrap,
     HistoryAboveGrant,
     HistoryEmptied,
+    HistoryPassedOver,
+    HistoryPassedAgain,
+    HistoryRunAcrossWrap,
 }
 
-const FORMS: [&str; 57] = [
+const FORMS: [&str; 73] = [
     "setup data",
     "no setup data",
     "no reply",
@@ -144,8 +160,21 @@ const FORMS: [&str; 57] = [
     "more landed than 32 bits",
     "one header as both",
     "xid given across the wrap",
-    "31 xids passed over",
     "xids passed over across the wrap",
+    "run that wraps passed over",
+    "run passed over that goes on behind a gap",
+    "run passed over in another order",
+    "run passed over behind a last in flight",
+    "run passed over behind a last answered",
+    "run that would go on in places behind",
+    "all in flight passed over, below 31",
+    "none passed over with calls in flight",
+    "none passed over before a run",
+    "23 at the grant before a run",
+    "23 for 32 in flight before a run",
+    "17 for grant 0 before a run",
+    "17 for one twice before a run",
+    "17 for more than 32 before a run",
     "32nd call sent",
     "32 in flight below the grant",
     "send with garbage behind",
@@ -163,23 +192,32 @@ const FORMS: [&str; 57] = [
     "history across the wrap",
     "history with more in flight than the grant",
     "history with all answered",
+    "history with xids passed over",
+    "history with xids passed over again",
+    "history with a run that wraps passed over",
 ];
 
 /// Order 2's bound: a piece takes as many goes at most.
 pub const MOST_GOES: u32 = 31;
+
+/// Order 6's bound: a send passes over as many xids at most.
+pub const MOST_PASSED: u32 = 31;
 
 /// What the implementation answered so far.
 pub struct Seen {
     numbers: [BTreeMap<u32, u64>; CALLS.len()],
     /// Of pieces that were taken; each count up to the bound must be seen.
     goes: BTreeMap<u32, u64>,
+    /// Xids passed over by sends that were taken; each count up to the bound must be seen.
+    passed: BTreeMap<u32, u64>,
     forms: [u64; FORMS.len()],
 }
 
 // By hand: none is derived for an array this long.
 impl Default for Seen {
     fn default() -> Self {
-        Seen { numbers: Default::default(), goes: BTreeMap::new(), forms: [0; FORMS.len()] }
+        let (goes, passed) = Default::default();
+        Seen { numbers: Default::default(), goes, passed, forms: [0; FORMS.len()] }
     }
 }
 
@@ -201,6 +239,13 @@ impl Seen {
         self.number(Call::Piece, answer.number);
         if answer.number == 0 {
             *self.goes.entry(answer.goes).or_default() += 1;
+        }
+    }
+
+    pub fn sent(&mut self, answer: SendAnswer) {
+        self.number(Call::LedgerSend, answer.number);
+        if answer.number == 0 {
+            *self.passed.entry(answer.passed).or_default() += 1;
         }
     }
 
@@ -238,22 +283,27 @@ impl Seen {
         ]);
     }
 
-    /// A line for each call, one for the goes, then one for each form.
+    /// A line for each call, one for the goes and one for the xids passed over, then one for each form.
     pub fn lines(&self) -> Vec<String> {
         let calls = CALLS.iter().zip(&self.numbers);
         let calls = calls.map(|((name, _), numbers)| format!("{name} numbers: {}", listed(numbers)));
         let forms = FORMS.iter().zip(self.forms).map(|(name, seen)| format!("{name}: {seen}"));
-        calls.chain([format!("goes of a piece: {}", listed(&self.goes))]).chain(forms).collect()
+        let goes = format!("goes of a piece: {}", listed(&self.goes));
+        let passed = format!("xids passed over: {}", listed(&self.passed));
+        calls.chain([goes, passed]).chain(forms).collect()
     }
 
-    /// Numbers and goes that are never given.
+    /// Numbers, goes and counts of xids passed over that are never given.
     pub fn unwanted(&self) -> Vec<String> {
         let numbers = CALLS.iter().zip(&self.numbers).flat_map(|((name, must), numbers)| {
             let other = numbers.keys().filter(|number| !must.contains(number));
             other.map(move |number| format!("{name} gave {number}"))
         });
         let goes = self.goes.keys().filter(|goes| **goes > MOST_GOES);
-        numbers.chain(goes.map(|goes| format!("a piece took {goes} goes"))).collect()
+        let goes = goes.map(|goes| format!("a piece took {goes} goes"));
+        let passed = self.passed.keys().filter(|passed| **passed > MOST_PASSED);
+        let passed = passed.map(|passed| format!("a send passed over {passed} xids"));
+        numbers.chain(goes).chain(passed).collect()
     }
 
     pub fn missing(&self) -> Vec<String> {
@@ -263,8 +313,11 @@ impl Seen {
         });
         let goes = (0..=MOST_GOES).filter(|goes| !self.goes.contains_key(goes));
         let goes = goes.map(|goes| format!("no piece took {goes} goes"));
+        let passed = (0..=MOST_PASSED).filter(|passed| !self.passed.contains_key(passed));
+        let passed = passed.map(|passed| format!("no send passed over {passed} xids"));
         let forms = FORMS.iter().zip(self.forms).filter(|(_, seen)| *seen == 0);
-        numbers.chain(goes).chain(forms.map(|(name, _)| format!("{name} never seen"))).collect()
+        let forms = forms.map(|(name, _)| format!("{name} never seen"));
+        numbers.chain(goes).chain(passed).chain(forms).collect()
     }
 }
 
@@ -304,6 +357,29 @@ mod tests {
         let mut seen = Seen::default();
         seen.piece(PieceAnswer { number: 0, goes: 32 });
         assert_eq!(seen.unwanted(), ["a piece took 32 goes"]);
+    }
+
+    /// Each count from 0 to 31 stands for itself, and a refused send for none.
+    #[test]
+    fn counts_of_xids_passed_over() {
+        let missing = |seen: &Seen| {
+            let missing = seen.missing().into_iter();
+            missing.filter(|what| what.starts_with("no send passed over ")).collect::<Vec<_>>()
+        };
+        let never = |counts: std::ops::RangeInclusive<u32>| {
+            counts.map(|passed| format!("no send passed over {passed} xids")).collect::<Vec<_>>()
+        };
+        let mut seen = Seen::default();
+        seen.sent(SendAnswer { number: 23, xid: 0, passed: 0 });
+        seen.sent(SendAnswer { number: 17, xid: 0, passed: 3 });
+        assert_eq!(missing(&seen), never(0..=31));
+        for passed in 0..=31 {
+            seen.sent(SendAnswer { number: 0, xid: 8, passed });
+            assert_eq!(missing(&seen), never(passed + 1..=31));
+        }
+        assert_eq!(seen.unwanted(), Vec::<String>::new());
+        seen.sent(SendAnswer { number: 0, xid: 8, passed: 32 });
+        assert_eq!(seen.unwanted(), ["a send passed over 32 xids"]);
     }
 
     /// A frame's version tells the replies to it apart; none stands for another.

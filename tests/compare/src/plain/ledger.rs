@@ -17,23 +17,24 @@ pub fn twice_quick(xids: &[u32]) -> bool {
     !rising && twice_quadratic(xids)
 }
 
-/// The xid, or the number.
+/// The xid and how many were passed over, or the number.
 #[inline(always)]
-fn send(ledger: &mut Ledger, twice: impl Fn(&[u32]) -> bool) -> Result<u32, u32> {
+fn send(ledger: &mut Ledger, twice: impl Fn(&[u32]) -> bool) -> Result<(u32, u32), u32> {
     let (in_flight, free) = ledger.xids.split_at_mut_checked(ledger.count as usize).ok_or(17u32)?;
     if ledger.grant == 0 || twice(in_flight) {
         return Err(17);
     }
     let (place, behind) = free.split_first_mut().filter(|_| ledger.count < ledger.grant).ok_or(23u32)?;
-    let mut xid = ledger.last.wrapping_add(1);
+    let (mut xid, mut passed) = (ledger.last.wrapping_add(1), 0);
     while in_flight.contains(&xid) {
         xid = xid.wrapping_add(1);
+        passed += 1;
     }
     *place = xid;
     behind.fill(0);
     ledger.count += 1;
     ledger.last = xid;
-    Ok(xid)
+    Ok((xid, passed))
 }
 
 #[inline(always)]
@@ -55,10 +56,10 @@ fn reply(ledger: &mut Ledger, xid: u32, grant: u32, twice: impl Fn(&[u32]) -> bo
 }
 
 #[inline(always)]
-fn answer(sent: Result<u32, u32>) -> SendAnswer {
+fn answer(sent: Result<(u32, u32), u32>) -> SendAnswer {
     match sent {
-        Ok(xid) => SendAnswer { number: 0, xid },
-        Err(number) => SendAnswer { number, xid: 0 },
+        Ok((xid, passed)) => SendAnswer { number: 0, xid, passed },
+        Err(number) => SendAnswer { number, xid: 0, passed: 0 },
     }
 }
 

@@ -4,6 +4,7 @@ use super::{can_fail, is_found, mistakes, store_behind, Wrong};
 use crate::calls::LedgerCalls;
 use crate::cases::ledger as families;
 use crate::check::{Checker, Operation, Outcome, Start};
+use crate::reference::ledger::Sent;
 use crate::rng::Rng;
 use crate::words::Words;
 use eoswynnor::ffi::{self, SendAnswer};
@@ -272,6 +273,13 @@ impl Wrong {
         Err(23)
     }
 
+    /// How many xids are passed over.
+    fn passed(&self, ledger: &ffi::Ledger) -> u32 {
+        let in_flight = &ledger.xids[..ROOM.min(ledger.count as usize)];
+        let mut behind = (1..).map(|step| ledger.last.wrapping_add(step));
+        behind.position(|xid| !in_flight.contains(&xid)).expect("one not in flight") as u32
+    }
+
     /// The xid answered and the ledger afterwards, or the number.
     fn send(&self, ledger: &ffi::Ledger) -> Result<(u32, ffi::Ledger), u32> {
         let full = self.full(ledger.count, ledger.grant);
@@ -503,7 +511,7 @@ impl Wrong {
             (Ledger(TwentyThreeAs24), 23) => 24,
             _ => number,
         };
-        SendAnswer { number, xid }
+        SendAnswer { number, xid, passed: 0 }
     }
 
     fn refused_reply(&self, ledger: &mut ffi::Ledger, xid: u32, grant: u32, number: u32) -> u32 {
@@ -561,11 +569,12 @@ impl LedgerCalls for Wrong {
     fn ledger_send(&self, ledger: &mut ffi::Ledger) -> SendAnswer {
         match self.send(ledger) {
             Ok((xid, after)) => {
+                let passed = self.passed(ledger);
                 *ledger = after;
                 if self.errs(SendStoresBehind) {
                     store_behind(ledger, xid);
                 }
-                SendAnswer { number: 0, xid }
+                SendAnswer { number: 0, xid, passed }
             }
             Err(number) => self.refused_send(ledger, number),
         }
@@ -837,9 +846,10 @@ fn each_check_of_a_history_can_fail() {
         reply(9),
     ];
     let answers = [8, 23, 0, 9, 10, 11, 24, 25, 0, 24, 0, 0];
-    let answers = answers.map(|answer| if answer > 11 { Err(answer) } else { Ok(answer) });
+    let sent = |xid| Sent { xid, passed: 0 };
+    let answers = answers.map(|answer| if answer > 11 { Err(answer) } else { Ok(sent(answer)) });
     let worked = |check: &mut Checker<Wrong>| {
-        check.worked_history(7, &operations, &answers, &families::flat(&[], 3, 11))
+        check.worked_history(Start::Open(7), &operations, &answers, &families::flat(&[], 3, 11))
     };
     for mistake in [
         OpenGrant32,
