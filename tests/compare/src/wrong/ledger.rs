@@ -45,6 +45,22 @@ mistakes! {
     NotPassedOver PassedOnce PassedInListOrder PassedByCount PassedBeyondGreatest PassedAtMost16
     PassedAtMost30 PassedInTwos PassingSaturates PassingWrapsTo1 PassingWithoutFirst PassingWithoutLast
     PassingLooksBehind PassingLooksOneBehind PassingIn16Bits PassedAs23
+    // How many are passed over: where the run begins.
+    RunFromLast RunThroughLast RunAroundLast RunBeforeLast RunFromTwoBehind RunFromNewest RunFromOldest
+    RunFromGreatest RunFromLeast RunFrom0 RunFromGiven RunOnlyBehindInFlight RunOnlyBehindAnswered
+    // How many are passed over: where the run ends.
+    RunAfterSend RunOverOneGap RunOfAllNear RunOfAllGreater RunLongest RunLastStretch RunStopsAtWrap
+    RunStopsBeforeLargest RunStopsBehind0 RunWrapsTo1 RunSaturates RunNotBehindLargest RunWithout0
+    RunWithoutLargest RunStopsAt2To31 RunWrapsAt2To16
+    // How many are passed over: which are looked at.
+    RunInListOrder RunByFirstPlaces RunByNeighbours RunByRounds RunOnlyRising RunLooksBehind
+    RunLooksOneBehind RunWithoutFirst RunWithoutNewest RunIn16Bits RunOnlyWithinRoom
+    // What is reported of them.
+    ReportsGivenToo ReportsGivenTooBehindRun ReportsOneLess ReportsOneMoreOf31 ReportsOneLessOf31
+    ReportsAtMost30 ReportsAtMost16 ReportsAtMost15 ReportsAtMost1 ReportsIn4Bits Reports31As0
+    ReportsBelowInFlight Reports0 Reports1 ReportsTwofold ReportsInFlight ReportsInFlightIfAny
+    ReportsInFlightAfter ReportsOthers ReportsXid ReportsNext ReportsLast ReportsExchanged ReportsPlace
+    ReportsCreditsLeft ReportsSaturated ReportsDifference ReportsFromNewest PassedLeftBehind
     // What a send leaves.
     JoinsInFront JoinsSorted JoinsInLastPlace NotJoined SendCountKept SendCountTwo LastKept LastOneMore
     LastFirstTried SendTakesGrant SendClampsGrant SendKeepsBehind SendKeepsNext SendKeepsLastPlace
@@ -52,6 +68,10 @@ mistakes! {
     // What a refused send leaves.
     RefusedGivesXid RefusedGivesLast RefusedTakesLast RefusedClears RefusedSendStoresBehind
     Refused17GivesXid Refused17Clears Refused17MendsGrant Refused17Reopens Refused17MendsCount
+    // What a refused send reports.
+    RefusedReportsNumber RefusedReportsRun RefusedAtGrantReportsRun RefusedOfRoomReportsRun
+    RefusedReportsInFlight RefusedReports1 RefusedReportsLargest Refused17ReportsRun Grant0ReportsRun
+    OneTwiceReportsRun OverfullReportsRun Refused17ReportsInFlight Refused17Reports1
     // Who leaves.
     UnknownTaken UnknownTakesFirst UnknownLastTaken BehindTaken OneBehindTaken OnlyFirstAnswered
     OnlyNewestAnswered ReplyWithoutFirst ReplyWithoutLast XidIn16Bits XidByLastByte Xid0Unknown
@@ -273,15 +293,144 @@ impl Wrong {
         Err(23)
     }
 
-    /// How many xids are passed over.
-    fn passed(&self, ledger: &ffi::Ledger) -> u32 {
-        let in_flight = &ledger.xids[..ROOM.min(ledger.count as usize)];
-        let mut behind = (1..).map(|step| ledger.last.wrapping_add(step));
-        behind.position(|xid| !in_flight.contains(&xid)).expect("one not in flight") as u32
+    /// How many xids of a list stand right behind each other from one on.
+    fn run_from(&self, xids: &[u32], first: u32) -> u32 {
+        let met = |xid: u32| match *self {
+            Ledger(RunIn16Bits) => xids.iter().any(|other| *other as u16 == xid as u16),
+            _ => xids.contains(&xid),
+        };
+        let (mut xid, mut run) = (first, 0);
+        // A mistake may never come to an end.
+        while run < 2 * ROOM as u32 && met(xid) {
+            match (*self, xid) {
+                (Ledger(RunStopsBeforeLargest), MAX) => break,
+                (Ledger(RunWithout0), 0) | (Ledger(RunWithoutLargest), MAX) => {}
+                _ => run += 1,
+            }
+            xid = match (*self, xid) {
+                (Ledger(RunStopsAtWrap), MAX) | (Ledger(RunStopsBehind0), 0) => break,
+                (Ledger(RunStopsAt2To31), 0x7fff_ffff) => break,
+                (Ledger(RunWrapsAt2To16), _) => xid & 0xffff_0000 | xid.wrapping_add(1) & 0xffff,
+                (Ledger(RunWrapsTo1), MAX) => 1,
+                (Ledger(RunSaturates), MAX) => MAX,
+                _ => xid.wrapping_add(1),
+            };
+        }
+        run
     }
 
-    /// The xid answered and the ledger afterwards, or the number.
-    fn send(&self, ledger: &ffi::Ledger) -> Result<(u32, ffi::Ledger), u32> {
+    /// How many xids are passed over to the one that is given.
+    fn passed(&self, ledger: &ffi::Ledger, count: usize, given: u32) -> u32 {
+        let (in_flight, last) = (&ledger.xids[..count], ledger.last);
+        let looked = match *self {
+            Ledger(RunLooksBehind) => &ledger.xids[..],
+            Ledger(RunLooksOneBehind) => &ledger.xids[..ROOM.min(count + 1)],
+            Ledger(RunWithoutFirst) => &in_flight[count.min(1)..],
+            Ledger(RunWithoutNewest) => &in_flight[..count.saturating_sub(1)],
+            _ => in_flight,
+        };
+        let (next, least) = (last.wrapping_add(1), in_flight.iter().copied().min());
+        let behind = |xid: Option<&u32>| xid.unwrap_or(&last).wrapping_add(1);
+        let run = self.run_from(looked, next);
+        // The length of the run that ends with one.
+        let up_to =
+            |xid: u32| (0..32).take_while(|&back| in_flight.contains(&xid.wrapping_sub(back))).count();
+        // Whether each of the 40 from the next one on is in flight.
+        let near = (0..40).map(|step| in_flight.contains(&next.wrapping_add(step))).collect::<Vec<_>>();
+        let in_list_order =
+            |xid: u32| in_flight.iter().fold(xid, |xid, other| xid.wrapping_add((*other == xid).into()));
+        let in_a_row = |xids: &[u32]| {
+            let steps = xids.iter().zip(0..);
+            steps.take_while(|(xid, step)| **xid == next.wrapping_add(*step)).count() as u32
+        };
+        match *self {
+            Ledger(RunFromLast) => self.run_from(in_flight, last),
+            Ledger(RunThroughLast) => run + u32::from(in_flight.contains(&last)),
+            Ledger(RunAroundLast) => run + up_to(last) as u32,
+            Ledger(RunBeforeLast) => up_to(last.wrapping_sub(1)) as u32,
+            Ledger(RunFromTwoBehind) => self.run_from(in_flight, last.wrapping_add(2)),
+            Ledger(RunFromNewest) => self.run_from(in_flight, behind(in_flight.last())),
+            Ledger(RunFromOldest) => self.run_from(in_flight, behind(in_flight.first())),
+            Ledger(RunFromGreatest) => self.run_from(in_flight, behind(in_flight.iter().max())),
+            Ledger(RunFromLeast) => self.run_from(in_flight, least.unwrap_or(next)),
+            Ledger(RunFrom0) => self.run_from(in_flight, 0),
+            Ledger(RunFromGiven) => self.run_from(in_flight, given.wrapping_add(1)),
+            Ledger(RunOnlyBehindInFlight) if !in_flight.contains(&last) => 0,
+            Ledger(RunOnlyBehindAnswered) if in_flight.contains(&last) => 0,
+            Ledger(RunAfterSend) => self.run_from(&[in_flight, &[given]].concat(), next),
+            Ledger(RunOverOneGap) => {
+                let end = near.windows(2).position(|two| !two[0] && !two[1]).unwrap_or(40);
+                near[..end].iter().filter(|met| **met).count() as u32
+            }
+            Ledger(RunOfAllNear) => near.iter().filter(|met| **met).count() as u32,
+            Ledger(RunOfAllGreater) => in_flight.iter().filter(|xid| **xid > last).count() as u32,
+            Ledger(RunLongest) => in_flight.iter().map(|xid| up_to(*xid)).max().unwrap_or(0) as u32,
+            Ledger(RunLastStretch) => {
+                let to_last = near.iter().rev().skip_while(|met| !**met);
+                to_last.take_while(|met| **met).count() as u32
+            }
+            Ledger(RunNotBehindLargest) if last == MAX => 0,
+            Ledger(RunInListOrder) => in_list_order(next).wrapping_sub(next),
+            Ledger(RunByFirstPlaces) => in_a_row(in_flight),
+            Ledger(RunByNeighbours) => {
+                let place = in_flight.iter().position(|xid| *xid == next);
+                in_a_row(&in_flight[place.unwrap_or(count)..])
+            }
+            Ledger(RunByRounds) => {
+                let mut ends = vec![next];
+                while in_list_order(ends[ends.len() - 1]) != ends[ends.len() - 1] {
+                    ends.push(in_list_order(ends[ends.len() - 1]));
+                }
+                ends.len() as u32 - 1
+            }
+            Ledger(RunOnlyRising) if !in_flight.is_sorted() => 0,
+            Ledger(RunOnlyWithinRoom) if ledger.grant > 32 => 0,
+            _ => run,
+        }
+    }
+
+    /// What is reported of so many passed over.
+    fn reported(&self, ledger: &ffi::Ledger, count: usize, given: u32, passed: u32) -> u32 {
+        let (in_flight, last) = (&ledger.xids[..count], ledger.last);
+        let newest = in_flight.last().copied().unwrap_or(last);
+        match *self {
+            Ledger(ReportsGivenToo) => passed + 1,
+            Ledger(ReportsGivenTooBehindRun) if passed > 0 => passed + 1,
+            Ledger(ReportsOneLess) => passed.saturating_sub(1),
+            Ledger(ReportsOneMoreOf31) if count == 31 => passed + 1,
+            Ledger(ReportsOneLessOf31) if count == 31 => passed.saturating_sub(1),
+            Ledger(ReportsAtMost30) => passed.min(30),
+            Ledger(ReportsAtMost16) => passed.min(16),
+            Ledger(ReportsAtMost15) => passed.min(15),
+            Ledger(ReportsAtMost1) => passed.min(1),
+            Ledger(ReportsIn4Bits) => passed & 0xf,
+            Ledger(Reports31As0) if passed == 31 => 0,
+            Ledger(ReportsBelowInFlight) => passed.min((count as u32).saturating_sub(1)),
+            Ledger(Reports0) => 0,
+            Ledger(Reports1) => 1,
+            Ledger(ReportsTwofold) => 2 * passed,
+            Ledger(ReportsInFlight) => count as u32,
+            Ledger(ReportsInFlightIfAny) if passed > 0 => count as u32,
+            Ledger(ReportsInFlightAfter) => count as u32 + 1,
+            Ledger(ReportsOthers) => count as u32 - passed,
+            Ledger(ReportsXid) => given,
+            Ledger(ReportsNext) => last.wrapping_add(1),
+            Ledger(ReportsLast) => last,
+            // The place of the last of them, from 1 on.
+            Ledger(ReportsPlace) if passed > 0 => {
+                let place = in_flight.iter().position(|xid| *xid == given.wrapping_sub(1));
+                place.map_or(0, |place| place as u32 + 1)
+            }
+            Ledger(ReportsCreditsLeft) => ledger.grant - count as u32,
+            Ledger(ReportsSaturated) => given.saturating_sub(last).saturating_sub(1),
+            Ledger(ReportsDifference) => given.abs_diff(last).saturating_sub(1),
+            Ledger(ReportsFromNewest) => given.wrapping_sub(newest).wrapping_sub(1),
+            _ => passed,
+        }
+    }
+
+    /// What is answered and the ledger afterwards, or the number.
+    fn send(&self, ledger: &ffi::Ledger) -> Result<(SendAnswer, ffi::Ledger), u32> {
         let full = self.full(ledger.count, ledger.grant);
         let early = match *self {
             Ledger(TwentyThreeBefore17) => full,
@@ -340,6 +489,10 @@ impl Wrong {
             Ledger(SendClampsGrant) => ledger.grant.min(32),
             _ => ledger.grant,
         };
+        let passed = self.reported(ledger, count, xid, self.passed(ledger, count, xid));
+        if self.errs(PassedLeftBehind) {
+            after.xids[ROOM - 1] = passed;
+        }
         let answered = match *self {
             Ledger(AnswersLast) => ledger.last,
             Ledger(AnswersNext) => xid.wrapping_add(1),
@@ -347,7 +500,11 @@ impl Wrong {
             Ledger(Answers0) => 0,
             _ => xid,
         };
-        Ok((answered, after))
+        let answer = match *self {
+            Ledger(ReportsExchanged) => SendAnswer { number: 0, xid: passed, passed: xid },
+            _ => SendAnswer { number: 0, xid: answered, passed },
+        };
+        Ok((answer, after))
     }
 
     /// The place of the call that is answered.
@@ -491,6 +648,24 @@ impl Wrong {
     /// What a refused send hands out, and what it leaves.
     fn refused_send(&self, ledger: &mut ffi::Ledger, number: u32) -> SendAnswer {
         let (count, mut xid) = (ROOM.min(ledger.count as usize), 0);
+        let run = self.run_from(&ledger.xids[..count], ledger.last.wrapping_add(1));
+        let (overfull, grant0) = (ledger.count > 32, ledger.grant == 0);
+        let passed = match (*self, number) {
+            (Ledger(RefusedReportsNumber), _) => number,
+            (Ledger(RefusedReportsRun), 23) => run,
+            (Ledger(RefusedAtGrantReportsRun), 23) if count < ROOM => run,
+            (Ledger(RefusedOfRoomReportsRun), 23) if count == ROOM => run,
+            (Ledger(RefusedReportsInFlight), 23) => count as u32,
+            (Ledger(RefusedReports1), 23) => 1,
+            (Ledger(RefusedReportsLargest), 23) => MAX,
+            (Ledger(Refused17ReportsRun), 17) => run,
+            (Ledger(Grant0ReportsRun), 17) if grant0 => run,
+            (Ledger(OneTwiceReportsRun), 17) if !grant0 && !overfull => run,
+            (Ledger(OverfullReportsRun), 17) if overfull => run,
+            (Ledger(Refused17ReportsInFlight), 17) => ledger.count,
+            (Ledger(Refused17Reports1), 17) => 1,
+            _ => 0,
+        };
         match (*self, number) {
             (Ledger(RefusedGivesXid), 23) => xid = ledger.last.wrapping_add(1),
             (Ledger(RefusedGivesLast), 23) => xid = ledger.last,
@@ -511,7 +686,7 @@ impl Wrong {
             (Ledger(TwentyThreeAs24), 23) => 24,
             _ => number,
         };
-        SendAnswer { number, xid, passed: 0 }
+        SendAnswer { number, xid, passed }
     }
 
     fn refused_reply(&self, ledger: &mut ffi::Ledger, xid: u32, grant: u32, number: u32) -> u32 {
@@ -568,13 +743,12 @@ impl LedgerCalls for Wrong {
 
     fn ledger_send(&self, ledger: &mut ffi::Ledger) -> SendAnswer {
         match self.send(ledger) {
-            Ok((xid, after)) => {
-                let passed = self.passed(ledger);
+            Ok((answer, after)) => {
                 *ledger = after;
                 if self.errs(SendStoresBehind) {
-                    store_behind(ledger, xid);
+                    store_behind(ledger, answer.xid);
                 }
-                SendAnswer { number: 0, xid, passed }
+                answer
             }
             Err(number) => self.refused_send(ledger, number),
         }
@@ -618,8 +792,14 @@ fn each_group_can_fail() {
     let twice = those(TwiceUnchecked, RisingRequired);
     let before_twice = [TwentyThreeBeforeTwice, TwentyFourBeforeTwice, TwentyFiveBeforeTwice];
     let sending = [those(LastNotInFlightRefused, Xid0Refused), those(Saturates, Answers0)].concat();
-    let unseen_by_runs = [SendClampsGrant, PassingIn16Bits];
-    let groups: [(Group, Vec<Mistake>); 11] = [
+    let unseen_by_runs =
+        [SendClampsGrant, PassingIn16Bits, RunIn16Bits, RunOnlyWithinRoom, RunStopsAt2To31, RunWrapsAt2To16];
+    let passed = those(RunFromLast, PassedLeftBehind);
+    let of_31 = [ReportsAtMost30, Reports31As0];
+    let passed_by_lives = passed.iter().copied().filter(|mistake| !of_31.contains(mistake)).collect();
+    let halves = [RunStopsAt2To31, RunWrapsAt2To16];
+    let largest = [RunStopsAtWrap, RunStopsBeforeLargest, RunWrapsTo1, RunSaturates, RunWithoutLargest];
+    let groups: [(Group, Vec<Mistake>); 12] = [
         (|check, rng| families::by_hand(check, rng), MISTAKES.to_vec()),
         (|check, rng| families::openings(check, rng, 2_000), openings.clone()),
         (
@@ -630,11 +810,18 @@ fn each_group_can_fail() {
                     &twice,
                     &before_twice,
                     &[LargestNeverGiven, PassedAtMost30, PassingSaturates, PassingWrapsTo1, PassingIn16Bits],
+                    &largest,
+                    &halves,
+                    &of_31,
+                    &[ReportsOneLessOf31, OneTwiceReportsRun],
                 ]
                 .concat(),
             ),
         ),
-        (|check, rng| families::pairs(check, rng), [&twice[..], &before_twice].concat()),
+        (
+            |check, rng| families::pairs(check, rng),
+            [&twice[..], &before_twice, &[OneTwiceReportsRun]].concat(),
+        ),
         (
             |check, rng| families::leavings(check, rng),
             [
@@ -650,11 +837,15 @@ fn each_group_can_fail() {
             sending.into_iter().filter(|mistake| !unseen_by_runs.contains(mistake)).collect(),
         ),
         (
+            |check, rng| families::stretches(check, rng, 2_000),
+            [&passed[..], &those(RefusedReportsNumber, Refused17Reports1)].concat(),
+        ),
+        (
             |check, rng| families::conditions(check, rng),
             [
                 those(Grant0Taken, AboveGrantRefused),
                 those(TwentyThreeBefore17, SignedGrant),
-                those(Refused17GivesXid, Refused17MendsCount),
+                those(Refused17GivesXid, Refused17Reports1),
                 those(Grant0OfReplyTaken, GrantLoweredOnly),
                 those(UnknownSetsGrant, RefusedReplyStoresBehind),
             ]
@@ -662,11 +853,11 @@ fn each_group_can_fail() {
         ),
         (
             |check, rng| families::damage(check, rng, 2_000),
-            all_but(&[&openings[..], &[PassingWrapsTo1]].concat()),
+            all_but(&[&openings[..], &[PassingWrapsTo1], &halves].concat()),
         ),
         (
             |check, rng| families::random(check, rng, 2_000),
-            all_but(&[&openings[..], &[CountIn16Bits, TwiceOf31, RisingRoundWrap]].concat()),
+            all_but(&[&openings[..], &[CountIn16Bits, TwiceOf31, RisingRoundWrap], &halves].concat()),
         ),
         (
             |check, _| families::short_lives(check),
@@ -677,6 +868,9 @@ fn each_group_can_fail() {
                 those(Saturates, StartsBehindGreatest),
                 those(SendCountKept, LastOneMore),
                 those(AnswersLast, RefusedTakesLast),
+                those(RunFromLast, RunBeforeLast),
+                vec![RunAfterSend, ReportsGivenToo, Reports1, ReportsInFlight, ReportsInFlightAfter],
+                vec![RefusedReportsNumber, RefusedReportsInFlight, RefusedReports1, RefusedReportsLargest],
                 those(UnknownTaken, UnknownTakesFirst),
                 those(Grant0OfReplyTaken, GrantLoweredOnly),
                 those(LowerGrantTakesNewestBack, NewestFillsGap),
@@ -691,7 +885,9 @@ fn each_group_can_fail() {
             [
                 those(OpenGrant0, OpenLastInPlace),
                 those(AboveGrantOnly, PassedByCount),
+                passed_by_lives,
                 those(JoinsInFront, Answers0),
+                those(RefusedReportsNumber, RefusedReportsLargest),
                 those(UnknownTaken, Grant0Leaves),
             ]
             .concat(),
@@ -709,7 +905,7 @@ fn each_group_can_fail() {
 #[test]
 fn named_cases_find() {
     let sends: [(&str, &[Mistake]); 26] = [
-        ("first", &[LastKept, SendCountKept, NotJoined, SendKeepsBehind, NoneInFlightRefused]),
+        ("first", &[LastKept, SendCountKept, NotJoined, SendKeepsBehind, NoneInFlightRefused, Reports1]),
         ("the largest xid", &[LargestNeverGiven]),
         ("wrapping to 0", &[Saturates, WrapsTo1, WrapAs23, WrapAs17]),
         ("the last not in flight", &[StartsAtLast, StartsBehindNewest, LastNotInFlightRefused]),
@@ -719,7 +915,24 @@ fn named_cases_find() {
             "the next in flight",
             &[NotPassedOver, NextInFlightRefused, LastFirstTried, PassedAs23, PassedInTwos],
         ),
-        ("two passed over", &[PassedOnce, PassingWithoutLast]),
+        (
+            "two passed over",
+            &[
+                PassedOnce,
+                PassingWithoutLast,
+                RunLooksBehind,
+                RunLooksOneBehind,
+                RunWithoutFirst,
+                RunWithoutNewest,
+                ReportsGivenToo,
+                ReportsGivenTooBehindRun,
+                ReportsOneLess,
+                ReportsAtMost1,
+                ReportsTwofold,
+                ReportsOthers,
+                ReportsExchanged,
+            ],
+        ),
         ("two passed over, turned round", &[PassedInListOrder, RisingRequired]),
         ("a run that is broken", &[PassedByCount, PassedBeyondGreatest]),
         ("31 passed over", &[PassedAtMost16, PassedAtMost30]),
@@ -738,6 +951,48 @@ fn named_cases_find() {
         ("one twice, once round all xids", &[RisingRoundWrap]),
         ("0 twice", &[Twice0Taken]),
         ("first and 32nd the same", &[TwiceWithoutFirst, TwiceWithoutLast, TwiceOf31]),
+    ];
+    let passing: [(&str, &[Mistake]); 28] = [
+        (
+            "a run behind a last in flight",
+            &[RunFromLast, RunThroughLast, RunAroundLast, RunOnlyBehindAnswered, ReportsFromNewest],
+        ),
+        (
+            "a run behind a last answered",
+            &[RunFromLast, RunBeforeLast, RunFromTwoBehind, RunOnlyBehindInFlight],
+        ),
+        ("a run up to the last", &[RunFromLast, RunAroundLast, RunBeforeLast, RunFromLeast]),
+        ("a run up to a last answered", &[RunBeforeLast, RunFromOldest, RunLongest]),
+        ("a run behind the newest", &[RunFromNewest]),
+        ("a run behind the oldest", &[RunFromOldest]),
+        ("a run from 0 on", &[RunFrom0]),
+        ("a run up to the largest", &[RunFromGreatest]),
+        ("a longer run behind a gap", &[RunFromGiven, RunAfterSend, RunOverOneGap, RunLongest]),
+        ("a shorter run behind a gap", &[RunLastStretch, ReportsInFlight, ReportsInFlightIfAny]),
+        ("a gap of two", &[RunOfAllNear, RunOfAllGreater]),
+        ("the 31st of 32 free", &[ReportsOneMoreOf31, ReportsOneLessOf31, RunOfAllNear, RunAfterSend]),
+        ("equal low halves in a run", &[RunIn16Bits]),
+        ("16 in flight passed over", &[ReportsAtMost15, ReportsIn4Bits, ReportsBelowInFlight]),
+        ("17 in flight passed over", &[ReportsAtMost16, ReportsBelowInFlight]),
+        ("31 in flight passed over, mixed", &[ReportsAtMost30, Reports31As0, ReportsOneMoreOf31]),
+        ("31 in flight passed over, grant 33", &[RunOnlyWithinRoom, PassedLeftBehind]),
+        ("five passed over, mixed", &[RunInListOrder, RunByRounds, RunOnlyRising, ReportsPlace]),
+        ("others between those of a run", &[RunByFirstPlaces, RunByNeighbours, ReportsPlace]),
+        (
+            "a wrapping run, mixed",
+            &[RunStopsAtWrap, RunStopsBeforeLargest, RunStopsBehind0, RunWithout0, ReportsSaturated],
+        ),
+        ("a wrapping run, 0 free", &[RunWrapsTo1, RunSaturates, RunWithoutLargest, ReportsDifference]),
+        ("a run behind the largest, broken", &[RunNotBehindLargest]),
+        ("a run across 2^31", &[RunStopsAt2To31]),
+        ("a run across 2^16", &[RunWrapsAt2To16]),
+        (
+            "at the grant before a run",
+            &[RefusedReportsRun, RefusedAtGrantReportsRun, RefusedReportsInFlight, RefusedReportsNumber],
+        ),
+        ("a run of 32 below a grant of 40", &[RefusedOfRoomReportsRun, RefusedReportsLargest]),
+        ("a ledger of grant 0 before a run", &[Refused17ReportsRun, Grant0ReportsRun, RefusedReportsNumber]),
+        ("one twice before a run", &[OneTwiceReportsRun, Refused17ReportsInFlight]),
     ];
     let replies: [(&str, &[Mistake]); 21] = [
         ("the only one", &[ReplyKeepsFreed, LastTakenBack, LastResetWhenEmpty]),
@@ -766,15 +1021,30 @@ fn named_cases_find() {
         ("one twice, not in flight", &[TwentyFourBeforeTwice, ReplyTwiceUnchecked]),
     ];
     let of_sends = sends.into_iter().map(|found| (families::sends(), found));
+    let of_passing = passing.into_iter().map(|found| (families::passing(), found));
     let of_replies = replies.into_iter().map(|found| (families::replies(), found));
-    for (cases, (name, mistakes)) in of_sends.chain(of_replies) {
+    for (cases, (name, mistakes)) in of_sends.chain(of_passing).chain(of_replies) {
         let case = cases.iter().find(|case| case.name == name).expect(name);
         mistakes.iter().for_each(|&mistake| can_fail(Ledger(mistake), |check| case.run(check, &mut Rng(1))));
     }
 }
 
-/// Of an opening, a send and a reply, taken and refused: the number, the xid, each part of the ledger and
-/// what lies behind it.
+/// Each wrong count of xids passed over is told by one of them.
+fn before_runs() -> Vec<ffi::Ledger> {
+    vec![
+        families::flat(&[7, 8, 6, 10], 40, 7),
+        families::flat(&[11, 9, 8, 0x1_000a], 5, 7),
+        families::flat(&[0, MAX, 2, 1, 4], 6, MAX - 1),
+        families::flat(&[MAX, 1], 3, MAX - 1),
+        families::flat(&[0], 2, MAX),
+        families::flat(&[0x8000_0000, 0x7fff_ffff], 3, 0x7fff_fffe),
+        families::flat(&[0xffff, 0x1_0000], 3, 0xfffe),
+        families::flat(&families::rising(8, 31), 32, 7),
+    ]
+}
+
+/// Of an opening, a send and a reply, taken and refused: the number, the xid, how many are passed over, each
+/// part of the ledger and what lies behind it.
 #[test]
 fn each_check_of_an_operation_can_fail() {
     for mistake in those(OpenGrant0, OpenLastInPlace).into_iter().chain([OpenStoresBehind]) {
@@ -793,6 +1063,25 @@ fn each_check_of_an_operation_can_fail() {
             LastFirstTried => noisy(&[8], 4),
             JoinsSorted => noisy(&[50, 60], 4),
             _ => noisy(&[5, 6, 7], 40),
+        };
+        operate(mistake, ledger, Operation::Send);
+    }
+    for mistake in those(RunFromLast, PassedLeftBehind) {
+        can_fail(Ledger(mistake), |check| {
+            let mut ledgers = before_runs().into_iter();
+            ledgers.try_for_each(|ledger| check.operate(&ledger, Operation::Send))
+        });
+    }
+    let run = noisy(&[5, 9, 8], 3);
+    for mistake in those(RefusedReportsNumber, Refused17Reports1) {
+        let ledger = match mistake {
+            RefusedOfRoomReportsRun => families::flat(&families::rising(8, 32), 32, 7),
+            Refused17ReportsRun | Grant0ReportsRun | Refused17ReportsInFlight | Refused17Reports1 => {
+                ffi::Ledger { grant: 0, ..run }
+            }
+            OneTwiceReportsRun => noisy(&[8, 9, 8], 4),
+            OverfullReportsRun => ffi::Ledger { count: 33, ..run },
+            _ => run,
         };
         operate(mistake, ledger, Operation::Send);
     }
@@ -917,5 +1206,33 @@ fn each_check_of_a_history_can_fail() {
     let given = Start::Given(families::flat(&[8, 10, 9], 5, 7));
     for mistake in [NotPassedOver, PassedOnce, PassingWithoutLast, NewestFillsGap, UnknownTakesFirst] {
         can_fail(Ledger(mistake), |check| check.accounted(given, &[Send, reply(8), reply(8)]));
+    }
+    // How many are passed over: each wrong count, and those of refused sends.
+    for mistake in those(RunFromLast, PassedLeftBehind) {
+        type History = fn(&mut Checker<Wrong>, Start, &[Operation]) -> Outcome;
+        let histories: [History; 2] = [
+            |check, start, operations| check.accounted(start, operations),
+            |check, start, operations| check.history(start, operations),
+        ];
+        for history in histories {
+            can_fail(Ledger(mistake), |check| {
+                let mut starts = before_runs().into_iter().map(Start::Given);
+                starts.try_for_each(|start| history(check, start, &[Send, Send]))
+            });
+        }
+    }
+    let worked = [Err(23), Ok(sent(0)), Ok(Sent { xid: 9, passed: 1 }), Err(23)];
+    let operations = [Send, reply(9), Send, Send];
+    let given = families::flat(&[8, 10, 9], 3, 7);
+    let after = families::flat(&[8, 10, 9], 3, 9);
+    for mistake in [Reports0, ReportsGivenToo, RunOverOneGap, RunAfterSend, ReportsInFlight]
+        .into_iter()
+        .chain(those(RefusedReportsNumber, RefusedAtGrantReportsRun))
+        .chain(those(RefusedReportsInFlight, RefusedReportsLargest))
+    {
+        let start = Start::Given(given);
+        can_fail(Ledger(mistake), |check| check.worked_history(start, &operations, &worked, &after));
+        can_fail(Ledger(mistake), |check| check.history(start, &operations));
+        can_fail(Ledger(mistake), |check| check.accounted(start, &operations));
     }
 }
