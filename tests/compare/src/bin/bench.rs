@@ -2,9 +2,9 @@
 //! copies. `bench --one CALL INPUT N` just makes N calls, for callgrind; CALL is a row's call
 //! behind lib-, plain- or copy-, INPUT the row's input. A fill is all pieces of a 1 MiB message; the
 //! 16 segments of fall16 are those of reads16 with falling positions. An input of send and reply ends
-//! with the number of calls in flight, their xids rising or across the wrap; spent8 and unknown8 are
-//! refused. Each call is made on a fresh copy of the ledger, and the copying is counted whoever makes the
-//! call: `plain-copied` makes none.
+//! with the number of calls in flight, their xids rising or across the wrap; pass31 passes all of them
+//! over, spent8 and unknown8 are refused. Each call is made on a fresh copy of the ledger, and the
+//! copying is counted whoever makes the call: `plain-copied` makes none.
 //! `bench --quadratic` compares, for send and reply, the plain calls with those that look for an xid
 //! twice pair by pair even where the xids rise: plain-send-quadratic and plain-reply-quadratic.
 
@@ -32,7 +32,7 @@ use std::time::Instant;
 
 const RUNS: usize = 21;
 
-const ROWS: [(&str, &str); 43] = [
+const ROWS: [(&str, &str); 44] = [
     ("read", "c2"),
     ("read", "reads16"),
     ("read", "fall16"),
@@ -70,6 +70,7 @@ const ROWS: [(&str, &str); 43] = [
     ("send", "flight8"),
     ("send", "flight31"),
     ("send", "wrap31"),
+    ("send", "pass31"),
     ("send", "spent8"),
     ("reply", "flight1"),
     ("reply", "flight8"),
@@ -142,13 +143,16 @@ fn input(name: &str) -> Input {
     let pair = if name == "full" { full_pair() } else { write1() };
     let in_flight = match (name, name.strip_prefix("flight")) {
         ("wrap31", _) => rising(u32::MAX - 14, 31),
+        ("pass31", _) => rising(1000, 31),
         ("spent8" | "unknown8", _) => rising(1000, 8),
         (_, Some(count)) => rising(1000, count.parse().expect("a count")),
         _ => vec![],
     };
     let mut ledger = sent(&in_flight);
-    if name == "spent8" {
-        ledger.grant = 8;
+    match name {
+        "pass31" => ledger.last = 999,
+        "spent8" => ledger.grant = 8,
+        _ => {}
     }
     // The middle one, or one that is not in flight.
     let xid = if name == "unknown8" { 1 } else { ledger.xids[ledger.count as usize / 2] };
@@ -239,7 +243,9 @@ fn calls_of<C: Calls>(maker: &C, call: &str, input: &mut Input, count: u64) {
             maker.returned(black_box(&mut *sent), black_box(&mut *reply), black_box(&mut landed))
         }),
         "send" => ledger_calls(ledger, count, |ledger| maker.ledger_send(ledger)),
-        "reply" => ledger_calls(ledger, count, |ledger| maker.ledger_reply(ledger, black_box(*xid), black_box(32))),
+        "reply" => {
+            ledger_calls(ledger, count, |ledger| maker.ledger_reply(ledger, black_box(*xid), black_box(32)))
+        }
         _ => assembly_calls_of(maker, call, input, count),
     }
 }
