@@ -139,8 +139,8 @@ pub below : (l : Ledger) → spent l ≡ false → l .count < maxInFlight
 unfolding spent
 below l e = leb-false maxInFlight (l .count) (neither (leb (l .grant) (l .count)) (leb maxInFlight (l .count)) e .1)
 
--- The unbroken run of xids in flight behind the last one given, said by places.
-pub behind-last : (l : Ledger) (n : ℕ) → Unbroken n (l .last + 1) (inFlight l) → RunBehind l n
+-- The unbroken run of xids in flight behind the last one given, and the search along a run, said by places.
+behind-last : (l : Ledger) (n : ℕ) → Unbroken n (l .last + 1) (inFlight l) → RunBehind l n
 behind-last l n u = record { over = λ k h. in-at ((l .last + 1 + k) % 4294967296) (inFlight l) (u .over k h); ends = not-in ((l .last + 1 + n) % 4294967296) (inFlight l) (u .ends) }
 
 unbroken-behind : (l : Ledger) (n : ℕ) → RunBehind l n → Unbroken n (l .last + 1) (inFlight l)
@@ -149,7 +149,7 @@ unbroken-behind l n r =
 
 steps-on : (n x : ℕ) (xs : List ℕ) → Unbroken n x xs → StepsOn n (x % 4294967296) ((x + n) % 4294967296) xs
 unfolding StepsOn
-steps-on zero x xs u = let same : x + 0 ≡ x = omega arith in (omega arith, not-in ((x + 0) % 4294967296) xs (u .ends))
+steps-on zero x xs u = (omega arith, not-in ((x + 0) % 4294967296) xs (u .ends))
 steps-on (suc n) x xs u =
     let on : (x % 4294967296 + 1) % 4294967296 ≡ (x + 1) % 4294967296 = omega arith in
     let same : x + suc n ≡ x + 1 + n = omega arith in

@@ -6,8 +6,8 @@ use mathlib.Core.List.{List, _∷_}
 use Prim.Native.Nat.{ℕ, zero, suc, _+_, _%_, _≤_, _<_}
 use native.Mathlib.Omega.{arith}
 use lib.ListN.{length}
-use lib.Dec.{eqb, ltb}
-use borrow.Author.Tests.{eqb-true, eqb-false, ltb-true, ltb-false}
+use lib.Dec.{eqb}
+use borrow.Author.Tests.{eqb-true, eqb-false}
 use Rattle.ledger.specs.Ledger.{isIn, xidAfter, firstFree, xidsBehind, runLength, without}
 use Rattle.ledger.proofs.Xids.{in-without, length-without}
 
@@ -31,7 +31,7 @@ places (suc n) x xs h r =
     omega arith
 
 -- One more at the end, and at the front.
-pub run-more : (n x : ℕ) (xs : List ℕ) → Run n x xs → isIn ((x + n) % 4294967296) xs ≡ true → Run (n + 1) x xs
+run-more : (n x : ℕ) (xs : List ℕ) → Run n x xs → isIn ((x + n) % 4294967296) xs ≡ true → Run (n + 1) x xs
 run-more n x xs r e k h = at-end (eqb k n) refl
   where
     at-end : (c : Bool) → eqb k n ≡ c → isIn ((x + k) % 4294967296) xs ≡ true
@@ -47,7 +47,7 @@ pub record Unbroken (n x : ℕ) (xs : List ℕ) : Type 0 where
   pub over : Run n x xs
   pub ends : isIn ((x + n) % 4294967296) xs ≡ false
 
-pub unbroken-none : (x : ℕ) (xs : List ℕ) → Unbroken 0 x xs → isIn (x % 4294967296) xs ≡ false
+unbroken-none : (x : ℕ) (xs : List ℕ) → Unbroken 0 x xs → isIn (x % 4294967296) xs ≡ false
 unbroken-none x xs u = let same : x + 0 ≡ x = omega arith in rw same at (u .ends)
 
 pub unbroken-others : (n x : ℕ) (xs : List ℕ) → Unbroken (suc n) x xs → Unbroken n (x + 1) xs
