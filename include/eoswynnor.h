@@ -221,9 +221,9 @@ struct eos_ledger {
 struct eos_send_answer {
     uint32_t number;
     uint32_t xid;                 /* of the call; 0 if it is refused, and an xid like any other if it is not */
-    uint32_t passed;              /* how many xids were passed over: of those right behind the last one given, as many as are
-                                     in flight up to the first that is not; at most as many as were in flight, so at most
-                                     EOS_MAX_PASSED; 0 if it is refused */
+    uint32_t passed;              /* how many xids were passed over: the length of the unbroken run of xids in flight right
+                                     behind the last one given before this send; at most as many as were in flight, so at
+                                     most EOS_MAX_PASSED; 0 if it is refused */
 };
 
 /* Reads the header of a frame, its lists as they stand. Numbers 1 to 4, then 5, 6, 7, 9, 10 from left to right, then 11. */
@@ -300,7 +300,7 @@ uint32_t eos_ledger_open(uint32_t last, struct eos_ledger *ledger);
 
 /* Sends a call: gives it the next xid, which joins those in flight at their end and is the last one given from then on. It
  * is one more than the last one, 0 behind the largest, and xids in flight are passed over. Answers the number, the xid, and
- * how many were passed over: so often the search for it stepped on. Numbers 17, 23. */
+ * how many were passed over: the search for it stepped on that many times. Numbers 17, 23. */
 struct eos_send_answer eos_ledger_send(struct eos_ledger *ledger);
 
 /* Takes a reply, which names an xid and a grant: the call is in flight no longer, those behind it close the gap in order,

@@ -120,7 +120,7 @@ pub struct SendAnswer {
     pub number: u32,
     /// The call's xid; 0 where it may not be sent.
     pub xid: u32,
-    /// How many xids in flight were passed over to it; 0 where it may not be sent.
+    /// How many xids in flight were passed over on the way to it; 0 where it may not be sent.
     pub passed: u32,
 }
 

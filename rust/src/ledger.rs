@@ -13,8 +13,8 @@ pub const MAX_PASSED: u32 = 31;
 #[derive(Clone, Copy, Debug, PartialEq, Eq)]
 pub struct Sent {
     pub xid: u32,
-    /// How many xids were passed over: of those right behind the last one given, as many as are in flight up to the first
-    /// that is not. At most as many as were in flight, so at most [`MAX_PASSED`].
+    /// How many xids were passed over: the length of the unbroken run of xids in flight right behind the last one given
+    /// before this send. At most as many as were in flight, so at most [`MAX_PASSED`].
     pub passed: u32,
 }
 
@@ -58,5 +58,33 @@ impl Ledger {
     /// The last xid given.
     pub fn last(&self) -> u32 {
         self.record.last
+    }
+}
+
+#[cfg(test)]
+mod tests {
+    use super::*;
+
+    /// A send by a ledger put together: one that was opened meets no xid again before it has given all of them.
+    fn send(in_flight: &[u32], grant: u32, last: u32) -> Result<Sent, Refusal> {
+        let mut record = ffi::Ledger { count: in_flight.len() as u32, grant, last, ..Default::default() };
+        record.xids[..in_flight.len()].copy_from_slice(in_flight);
+        Ledger { record }.send()
+    }
+
+    #[test]
+    fn xids_in_flight_are_passed_over() {
+        let sent = |xid, passed| Ok(Sent { xid, passed });
+        let behind = |last: u32, count: u32| (1..=count).map(|k| last.wrapping_add(k)).collect::<Vec<_>>();
+        assert_eq!(send(&[7, 6], 3, 5), sent(8, 2));
+        assert_eq!(send(&behind(5, MAX_PASSED), 32, 5), sent(37, MAX_PASSED));
+        // Across the largest xid.
+        assert_eq!(send(&behind(u32::MAX - 2, 4), 9, u32::MAX - 2), sent(2, 4));
+        // Only the first stretch counts, and only right behind the last one.
+        assert_eq!(send(&[6, 8, 9], 9, 5), sent(7, 1));
+        assert_eq!(send(&[5, 7, 8], 9, 5), sent(6, 0));
+        // Refused, whatever stands behind the last one.
+        assert_eq!(send(&[6, 7], 2, 5), Err(Refusal(23)));
+        assert_eq!(send(&[6, 6], 3, 5), Err(Refusal(17)));
     }
 }

@@ -1,6 +1,6 @@
 //! The calls in flight of a client.
 
-use eoswynnor::{ffi, Ledger, Refusal, Sent, MAX_IN_FLIGHT, MAX_PASSED};
+use eoswynnor::{Ledger, Refusal, Sent, MAX_IN_FLIGHT};
 
 const SPENT: Result<Sent, Refusal> = Err(Refusal(23));
 const UNKNOWN: Result<(), Refusal> = Err(Refusal(24));
@@ -85,26 +85,4 @@ fn refused_replies_change_nothing() {
     assert_eq!(ledger, before);
     assert_eq!(ledger.reply(5, u32::MAX), Ok(()));
     assert_eq!(ledger.grant(), u32::MAX);
-}
-
-#[test]
-fn xids_in_flight_are_passed_over() {
-    // A ledger that was opened gives 4,294,967,296 xids before it meets one again, so these are lent as the C calls have them.
-    let passed = |in_flight: &[u32], grant, last| {
-        let mut record = ffi::Ledger { count: in_flight.len() as u32, grant, last, ..Default::default() };
-        record.xids[..in_flight.len()].copy_from_slice(in_flight);
-        let answer = unsafe { ffi::eos_ledger_send(&mut record) };
-        (answer.number, answer.xid, answer.passed)
-    };
-    let behind = |last: u32, count: u32| (1..=count).map(|k| last.wrapping_add(k)).collect::<Vec<_>>();
-    assert_eq!(passed(&[7, 6], 3, 5), (0, 8, 2));
-    assert_eq!(passed(&behind(5, MAX_PASSED), 32, 5), (0, 37, MAX_PASSED));
-    // Across the largest xid.
-    assert_eq!(passed(&behind(u32::MAX - 2, 4), 9, u32::MAX - 2), (0, 2, 4));
-    // Only the first stretch counts, and only right behind the last one.
-    assert_eq!(passed(&[6, 8, 9], 9, 5), (0, 7, 1));
-    assert_eq!(passed(&[5, 7, 8], 9, 5), (0, 6, 0));
-    // Refused, whatever stands behind the last one.
-    assert_eq!(passed(&[6, 7], 2, 5), (23, 0, 0));
-    assert_eq!(passed(&[6, 6], 3, 5), (17, 0, 0));
 }

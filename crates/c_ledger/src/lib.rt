@@ -15,7 +15,7 @@ pub extern "C" fn eos_ledger_open(last: u32, ledger: &mut Ledger) -> u32
     opened.number
 }
 
-// Sends a call: takes the next xid.
+// Sends a call: takes the next xid, and says how many were passed over.
 #[no_mangle]
 pub extern "C" fn eos_ledger_send(ledger: &mut Ledger) -> SendAnswer
     ensures answer { λ r. ⌜ r ≡ sendAnswer (now (ledger .entry)) ⌝ }

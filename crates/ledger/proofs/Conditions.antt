@@ -5,19 +5,19 @@ use mathlib.Core.Bool.{Bool, true, false, not, false≢true, true≢false, or-tr
 use mathlib.Core.List.{List, [], _∷_, _++_}
 use Prim.Native.Nat.{ℕ, zero, suc, _+_, _%_, _≤_, _<_}
 use native.Mathlib.Omega.{arith}
-use lib.ListN.{length, getD}
+use lib.ListN.{length, getD, length-take}
 use lib.Dec.{eqb, leb, ltb}
 use borrow.Author.Tests.{eqb-true, eqb-false, eq-eqb, ne-eqb, leb-true, leb-false, le-leb, ltb-true, lt-ltb, not-true}
 use Rattle.answers.specs.Answers.{check}
 use Rattle.answers.proofs.Checks.{neither, check-passed}
-use Rattle.ledger.specs.Ledger.{maxInFlight, inFlight, ledgerOf, isIn, anyTwice, unfit, nextXid, spent, sendNumber, passedOver, sendAnswer, sendLedger, replyNumber, replyLedger}
-use Rattle.ledger.specs.Conditions.{In, Twice, Unfit, more-in-flight, one-twice, no-grant, Spent, reach-grant, reach-room, RunBehind, Next, StepsOn, SendGets, send-unfit, send-spent, send-taken, ReplyGets, reply-unfit, reply-no-grant, reply-unknown, reply-taken, SameCalls}
+use Rattle.ledger.specs.Ledger.{maxInFlight, inFlight, ledgerOf, isIn, anyTwice, unfit, firstFree, nextXid, spent, sendNumber, passedOver, sendAnswer, sendLedger, replyNumber, replyLedger}
+use Rattle.ledger.specs.Conditions.{In, Twice, Unfit, more-in-flight, one-twice, no-grant, Spent, reach-grant, reach-room, RunBehind, Next, SendGets, send-unfit, send-spent, send-taken, ReplyGets, reply-unfit, reply-no-grant, reply-unknown, reply-taken, SameCalls}
 use Rattle.ledger.specs.declared.Ledger.{Ledger}
-use Rattle.ledger.proofs.Searching.{run-first, Unbroken, unbroken-others, unbroken-only, run-within, run-unbroken, search-ends}
-use Rattle.ledger.proofs.Steps.{all-in-flight, send-kept, reply-kept}
+use Rattle.ledger.proofs.Searching.{Unbroken, unbroken-only, run-within, run-unbroken, search-ends, search-within}
+use Rattle.ledger.proofs.Steps.{send-kept, reply-kept}
 
 -- In a list.
-pub in-at : (x : ℕ) (xs : List ℕ) → isIn x xs ≡ true → In x xs
+in-at : (x : ℕ) (xs : List ℕ) → isIn x xs ≡ true → In x xs
 unfolding isIn
 in-at x [] e = absurd (false≢true e)
 in-at x (y ∷ ys) e = by-test (eqb x y) refl (λ h. in-at x ys h)
@@ -32,10 +32,10 @@ in-place x [] k h e = absurd (omega arith)
 in-place x (y ∷ ys) zero h e = rw (eq-eqb x y (sym e))
 in-place x (y ∷ ys) (suc k) h e = rw (in-place x ys k (omega arith) e, or-true (eqb x y))
 
-pub at-in : (x : ℕ) (xs : List ℕ) → In x xs → isIn x xs ≡ true
+at-in : (x : ℕ) (xs : List ℕ) → In x xs → isIn x xs ≡ true
 at-in x xs i = in-place x xs (i .place) (i .within) (i .is)
 
-pub not-in : (x : ℕ) (xs : List ℕ) → isIn x xs ≡ false → In x xs → ⊥
+not-in : (x : ℕ) (xs : List ℕ) → isIn x xs ≡ false → In x xs → ⊥
 not-in x xs e i = true≢false (sym (at-in x xs i) ∙ e)
 
 at-not : (x : ℕ) (xs : List ℕ) → (In x xs → ⊥) → isIn x xs ≡ false
@@ -139,7 +139,7 @@ pub below : (l : Ledger) → spent l ≡ false → l .count < maxInFlight
 unfolding spent
 below l e = leb-false maxInFlight (l .count) (neither (leb (l .grant) (l .count)) (leb maxInFlight (l .count)) e .1)
 
--- The unbroken run of xids in flight behind the last one given, and the search along a run, said by places.
+-- The unbroken run of xids in flight behind the last one given, said by places.
 behind-last : (l : Ledger) (n : ℕ) → Unbroken n (l .last + 1) (inFlight l) → RunBehind l n
 behind-last l n u = record { over = λ k h. in-at ((l .last + 1 + k) % 4294967296) (inFlight l) (u .over k h); ends = not-in ((l .last + 1 + n) % 4294967296) (inFlight l) (u .ends) }
 
@@ -147,24 +147,16 @@ unbroken-behind : (l : Ledger) (n : ℕ) → RunBehind l n → Unbroken n (l .la
 unbroken-behind l n r =
     record { over = λ k h. at-in ((l .last + 1 + k) % 4294967296) (inFlight l) (r .over k h); ends = at-not ((l .last + 1 + n) % 4294967296) (inFlight l) (r .ends) }
 
-steps-on : (n x : ℕ) (xs : List ℕ) → Unbroken n x xs → StepsOn n (x % 4294967296) ((x + n) % 4294967296) xs
-unfolding StepsOn
-steps-on zero x xs u = (omega arith, not-in ((x + 0) % 4294967296) xs (u .ends))
-steps-on (suc n) x xs u =
-    let on : (x % 4294967296 + 1) % 4294967296 ≡ (x + 1) % 4294967296 = omega arith in
-    let same : x + suc n ≡ x + 1 + n = omega arith in
-    (in-at (x % 4294967296) xs (run-first n x xs (u .over)), rw (on, same) (steps-on n (x + 1) xs (unbroken-others n x xs u)))
-
 -- A call that is sent: the xid given, and how many were passed over.
-module _ (l : Ledger) (long : length (l .xids) ≡ maxInFlight) (e : sendNumber l ≡ 0) where
+module _ (l : Ledger) (e : sendNumber l ≡ 0) where
   room : l .count < maxInFlight
   room = below l (accepts l e .1)
 
-  all : length (inFlight l) ≡ l .count
-  all = all-in-flight l long (let h = room in omega arith)
+  counted : length (inFlight l) ≤ l .count
+  counted = rw length-take (omega arith)
 
   few : length (inFlight l) < maxInFlight
-  few = rw all room
+  few = let h = room in let k = counted in omega arith
 
   xid-is : sendAnswer l .xid ≡ nextXid l
   unfolding sendAnswer
@@ -183,7 +175,7 @@ module _ (l : Ledger) (long : length (l .xids) ≡ maxInFlight) (e : sendNumber 
   passed-most =
       let within = run-within maxInFlight (l .last) (inFlight l) (omega arith) in
       let h = room in
-      let k = all in
+      let k = counted in
       rw passed-is (omega arith, omega arith)
 
   pub run-is : (n : ℕ) → (sendAnswer l .passed ≡ n → RunBehind l n) × (RunBehind l n → sendAnswer l .passed ≡ n)
@@ -196,8 +188,8 @@ module _ (l : Ledger) (long : length (l .xids) ≡ maxInFlight) (e : sendNumber 
       let is : sendAnswer l .xid ≡ (l .last + 1 + sendAnswer l .passed) % 4294967296 = xid-is ∙ search-ends (sendAnswer l .passed) (l .count) (l .last + 1) (inFlight l) passed-run within in
       record { over = behind-last l (sendAnswer l .passed) passed-run; is = is }
 
-  pub search-is : StepsOn (sendAnswer l .passed) ((l .last + 1) % 4294967296) (sendAnswer l .xid) (inFlight l)
-  search-is = rw (next-is .is) (steps-on (sendAnswer l .passed) (l .last + 1) (inFlight l) passed-run)
+  pub search-is : (k : ℕ) → (k ≤ sendAnswer l .passed → firstFree k ((l .last + 1) % 4294967296) (inFlight l) ≡ (l .last + 1 + k) % 4294967296) × (sendAnswer l .passed ≤ k → firstFree k ((l .last + 1) % 4294967296) (inFlight l) ≡ sendAnswer l .xid)
+  search-is k = (λ h. search-within (sendAnswer l .passed) k (l .last + 1) (inFlight l) passed-run h, λ h. search-ends (sendAnswer l .passed) k (l .last + 1) (inFlight l) passed-run h ∙ sym (next-is .is))
 
 -- It joins at the end, and is the last one given.
 pub sent-ledger : (l : Ledger) → sendNumber l ≡ 0 → sendLedger l ≡ ledgerOf (inFlight l ++ sendAnswer l .xid ∷ []) (l .grant) (sendAnswer l .xid)

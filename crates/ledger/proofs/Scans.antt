@@ -1,7 +1,7 @@
 -- What a loop along the xids knows before place i, and what it changes there.
 -- Assumes nothing.
 use mathlib.Core.Path.{_≡_, refl, sym, ap, _∙_}
-use mathlib.Core.Bool.{Bool, true, false, cond, _&&_, _||_, and-true}
+use mathlib.Core.Bool.{Bool, true, false, cond, _&&_, _||_, and-true, or-false}
 use mathlib.Core.List.{List, [], _∷_, _++_, append-assoc, append-nil}
 use native.Mathlib.Numerals.{add-one}
 use native.Mathlib.Omega.{arith}
@@ -12,6 +12,19 @@ use lib.Dec.{eqb, ltb}
 use borrow.Author.Tests.{eq-eqb, ne-eqb}
 use Rattle.ledger.specs.Ledger.{maxInFlight, padded, isIn, anyTwice}
 use Rattle.ledger.specs.Internal.Search.{rising, placeOf}
+
+-- Whether x is there: before place k, or from there on.
+pub in-next : (x : ℕ) (xs : List ℕ) (k : ℕ) (so : Bool) → k < length xs → isIn x xs ≡ (so || isIn x (drop k xs)) → isIn x xs ≡ ((so || eqb x (getD xs k 0)) || isIn x (drop (k + 1) xs))
+unfolding isIn
+in-next x xs k so h e = e ∙ rw (add-one, drop-cons xs k 0 h) (either so (eqb x (getD xs k 0)) (isIn x (drop (suc k) xs)))
+  where
+    either : (a b c : Bool) → (a || (b || c)) ≡ ((a || b) || c)
+    either true b c = refl
+    either false b c = refl
+
+pub in-end : (x : ℕ) (xs : List ℕ) (k : ℕ) (so : Bool) → length xs ≤ k → isIn x xs ≡ (so || isIn x (drop k xs)) → so ≡ isIn x xs
+unfolding isIn
+in-end x xs k so h e = sym (e ∙ rw (drop-of-length-le xs {i = k} h) (or-false so))
 
 -- Whether one is there twice.
 module _ (xs : List ℕ) (i : ℕ) (h : i < length xs) (so : anyTwice xs ≡ anyTwice (drop i xs)) where

@@ -16,14 +16,14 @@ abbrev pub Run : ℕ → ℕ → List ℕ → Type 0
 Run n x xs = (k : ℕ) → k < n → isIn ((x + k) % 4294967296) xs ≡ true
 
 -- The first of them, and the others.
-pub run-first : (n x : ℕ) (xs : List ℕ) → Run (suc n) x xs → isIn (x % 4294967296) xs ≡ true
+run-first : (n x : ℕ) (xs : List ℕ) → Run (suc n) x xs → isIn (x % 4294967296) xs ≡ true
 run-first n x xs r = let same : x + 0 ≡ x = omega arith in rw same at (r 0 (omega arith))
 
 run-others : (n x : ℕ) (xs : List ℕ) → Run (suc n) x xs → Run n (x + 1) xs
 run-others n x xs r k h = let same : x + 1 + k ≡ x + suc k = omega arith in rw same (r (suc k) (omega arith))
 
 -- So many different xids need as many places.
-pub places : (n x : ℕ) (xs : List ℕ) → n ≤ 4294967296 → Run n x xs → n ≤ length xs
+places : (n x : ℕ) (xs : List ℕ) → n ≤ 4294967296 → Run n x xs → n ≤ length xs
 places zero x xs h r = omega arith
 places (suc n) x xs h r =
     let fewer = places n (x + 1) (without (x % 4294967296) xs) (omega arith) (λ k b. in-without (x % 4294967296) ((x + 1 + k) % 4294967296) xs (λ q. omega arith) (run-others n x xs r k b)) in
@@ -50,7 +50,7 @@ pub record Unbroken (n x : ℕ) (xs : List ℕ) : Type 0 where
 unbroken-none : (x : ℕ) (xs : List ℕ) → Unbroken 0 x xs → isIn (x % 4294967296) xs ≡ false
 unbroken-none x xs u = let same : x + 0 ≡ x = omega arith in rw same at (u .ends)
 
-pub unbroken-others : (n x : ℕ) (xs : List ℕ) → Unbroken (suc n) x xs → Unbroken n (x + 1) xs
+unbroken-others : (n x : ℕ) (xs : List ℕ) → Unbroken (suc n) x xs → Unbroken n (x + 1) xs
 unbroken-others n x xs u = let same : x + 1 + n ≡ x + suc n = omega arith in record { over = run-others n x xs (u .over); ends = rw same (u .ends) }
 
 -- And no other number.
@@ -93,16 +93,23 @@ run-within n x xs below = let c = counted n x xs in let most = c .most in places
 pub run-unbroken : (n x : ℕ) (xs : List ℕ) → n ≤ 4294967296 → length xs < n → Unbroken (runLength (xidsBehind n x) xs) (x + 1) xs
 run-unbroken n x xs below short = let c = counted n x xs in let few = run-within n x xs below in record { over = c .over; ends = c .stops (omega arith) }
 
--- The search that may pass over so many stops at its end.
-pub search-ends : (n m x : ℕ) (xs : List ℕ) → Unbroken n x xs → n ≤ m → firstFree m (x % 4294967296) xs ≡ (x + n) % 4294967296
+-- The search that may step on m times, past n xids that are in the list, to one that is not unless it may not step on.
+search-at : (n m x : ℕ) (xs : List ℕ) → Run n x xs → (n < m → isIn ((x + n) % 4294967296) xs ≡ false) → n ≤ m → firstFree m (x % 4294967296) xs ≡ (x + n) % 4294967296
 unfolding firstFree
-search-ends zero zero x xs u h = omega arith
-search-ends zero (suc m) x xs u h = rw (unbroken-none x xs u) (omega arith)
-search-ends (suc n) zero x xs u h = absurd (omega arith)
-search-ends (suc n) (suc m) x xs u h =
+search-at zero zero x xs r stops h = omega arith
+search-at zero (suc m) x xs r stops h = let none = unbroken-none x xs (record { over = r; ends = stops (omega arith) }) in rw none (omega arith)
+search-at (suc n) zero x xs r stops h = absurd (omega arith)
+search-at (suc n) (suc m) x xs r stops h =
     let on : xidAfter (x % 4294967296) ≡ (x + 1) % 4294967296 = omega arith in
     let same : x + 1 + n ≡ x + suc n = omega arith in
-    rw (run-first n x xs (u .over), on) (rw same at (search-ends n m (x + 1) xs (unbroken-others n x xs u) (omega arith)))
+    rw (run-first n x xs r, on) (rw same at (search-at n m (x + 1) xs (run-others n x xs r) (λ k. rw same (stops (omega arith))) (omega arith)))
+
+-- It stops at the end of an unbroken run, and before that only where it may not step on.
+pub search-ends : (n m x : ℕ) (xs : List ℕ) → Unbroken n x xs → n ≤ m → firstFree m (x % 4294967296) xs ≡ (x + n) % 4294967296
+search-ends n m x xs u h = search-at n m x xs (u .over) (λ k. u .ends) h
+
+pub search-within : (n m x : ℕ) (xs : List ℕ) → Unbroken n x xs → m ≤ n → firstFree m (x % 4294967296) xs ≡ (x + m) % 4294967296
+search-within n m x xs u h = search-at m m x xs (λ k b. u .over k (omega arith)) (λ b. absurd (omega arith)) (omega arith)
 
 -- The loop, where it has come to `xid`.
 pub record Seeking (xs : List ℕ) (last xid passed : ℕ) : Type 0 where

@@ -148,13 +148,6 @@ there x xs h = by-test (isIn x xs) refl
     by-test true e = e
     by-test false e = let k = place-in x xs false e in absurd (omega arith)
 
-pub place-tells : (x : ℕ) (xs : List ℕ) → ltb (placeOf x xs) (length xs) ≡ isIn x xs
-place-tells x xs = by-test (isIn x xs) refl
-  where
-    by-test : (b : Bool) → isIn x xs ≡ b → ltb (placeOf x xs) (length xs) ≡ isIn x xs
-    by-test true e = lt-ltb (placeOf x xs) (length xs) (place-in x xs true e) ∙ sym e
-    by-test false e = let k = place-in x xs false e in le-ltb (placeOf x xs) (length xs) (omega arith) ∙ sym e
-
 pub leaves-from : (x : ℕ) (xs : List ℕ) → placeOf x xs < length xs → take (placeOf x xs) xs ++ drop (placeOf x xs + 1) xs ≡ without x xs
 unfolding without placeOf
 leaves-from x [] h = absurd (omega arith)

@@ -1,5 +1,5 @@
 -- The conditions of orders 5 and 6 said by places, whichever way they are tested.
-use Prim.Native.Nat.{ℕ, zero, suc, _+_, _%_, _≤_, _<_}
+use Prim.Native.Nat.{ℕ, _+_, _%_, _≤_, _<_}
 use mathlib.Core.Path.{_≡_}
 use mathlib.Core.List.{List}
 use lib.ListN.{length, getD}
@@ -40,11 +40,6 @@ pub record RunBehind (l : Ledger) (n : ℕ) : Type 0 where
 pub record Next (l : Ledger) (xid passed : ℕ) : Type 0 where
   pub over : RunBehind l passed
   pub is : xid ≡ (l .last + 1 + passed) % 4294967296
-
--- The search for the next xid: from x it steps on n times, each time from an xid that is in the list to the one behind it, and stops at `xid`, which is not.
-unfoldable pub StepsOn : ℕ → ℕ → ℕ → List ℕ → Type 0
-StepsOn zero x xid xs = (x ≡ xid) × (In xid xs → ⊥)
-StepsOn (suc n) x xid xs = In x xs × StepsOn n ((x + 1) % 4294967296) xid xs
 
 -- "A ledger with more in flight, one xid twice or grant 0 gets 17 first."; "it is refused with 23 exactly if the calls in flight reach or pass the grant or 32": the number of a send, and why.
 pub data SendGets (l : Ledger) (number : ℕ) : Type 0 where

@@ -86,12 +86,13 @@ pub record NextXid (es : List Event) (last xid passed : ℕ) : Type 0 where
   pub within : passed ≤ unansweredCalls es
   pub most : passed ≤ 31
 
--- What the history so far says of an event that comes next, the opener having named `last`: "A refused send reports 0." (order 6)
+-- What the history so far says of a send that comes next, the opener having named `last`: "A refused send reports 0." (order 6)
 pub record SendSaid (last : ℕ) (es : List Event) (a : SendAnswer) : Type 0 where
   pub number : a .number ≡ cond (spentIn es) 23 0
   pub refused : spentIn es ≡ true → (a .xid ≡ 0) × (a .passed ≡ 0)
   pub sent : spentIn es ≡ false → NextXid es (lastIn last es) (a .xid) (a .passed)
 
+-- And of any event.
 abbrev pub Said : ℕ → List Event → Event → Type 0
 Said last es (sendGot a) = SendSaid last es a
 Said last es (replyGot xid grant number) = number ≡ cond (eqb grant 0) 25 (cond (unanswered es xid) 0 24)
@@ -112,7 +113,7 @@ unfoldable pub minus : List ℕ → List ℕ → List ℕ
 minus xs [] = xs
 minus xs (y ∷ ys) = minus (without y xs) ys
 
--- "the calls accepted for sending are those answered plus those in flight, taken from the history, and no xid is in flight twice": of a ledger and every number and xid that it gave since it was opened. The last clause says the whole ledger: those sent less those answered, in sending order, with zeros behind them.
+-- "the calls accepted for sending are those answered plus those in flight, taken from the history, and no xid is in flight twice": of a ledger and all that it answered since it was opened. The last clause says the whole ledger: those sent less those answered, in sending order, with zeros behind them.
 pub record Accounted (last : ℕ) (es : List Event) (l : Ledger) : Type 0 where
   pub said : AllSaid last [] es
   pub calls : (x : ℕ) → occurrences x (sentIn es) ≡ occurrences x (answeredIn es) + occurrences x (inFlight l)

@@ -69,7 +69,7 @@ unfoldable pub xidsBehind : ℕ → ℕ → List ℕ
 xidsBehind zero x = []
 xidsBehind (suc n) x = xidAfter x ∷ xidsBehind n (xidAfter x)
 
--- "the length of the unbroken run": how many of these xids, from the first on and up to one that is not, are in the list.
+-- "the length of the unbroken run": how many of these xids are in the list, from the first on, up to one that is not.
 unfoldable pub runLength : List ℕ → List ℕ → ℕ
 runLength [] xs = 0
 runLength (y ∷ ys) xs = cond (isIn y xs) (suc (runLength ys xs)) 0

@@ -1,11 +1,11 @@
 // A ledger of credits: the calls in flight, the grant, the last xid given. Public: MAX_IN_FLIGHT, Ledger, OpenAnswer, open_ledger,
 // SendAnswer, send, reply.
 ghost use mathlib.Core.Path.{_≡_};
-ghost use mathlib.Core.Bool.{_&&_};
+ghost use mathlib.Core.Bool.{_&&_, _||_};
 ghost use mathlib.Core.List.{[], _∷_, _++_};
 ghost use Prim.Native.Nat.{ℕ, _+_, _≤_, _<_};
 ghost use lib.ListN.{length, take, drop};
-ghost use lib.Dec.{ltb};
+ghost use lib.Dec.{eqb, ltb};
 ghost use Rattle.ledger.specs.Ledger.{padded, isIn, anyTwice, unfit, maxInFlight, xidAfter, firstFree, xidsBehind, runLength, openAnswer, sendAnswer, sendLedger, replyNumber, replyLedger};
 ghost use Rattle.ledger.specs.Internal.Search.{rising, placeOf};
 
@@ -79,11 +79,26 @@ fn place_of(list: &[u32], xid: u32) -> usize
     list.len()
 }
 
+// Whether an xid was met so far, or is met now.
+fn meets(so_far: bool, xid: u32, other: u32) -> bool
+    ensures { λ r. ⌜ r ≡ («so_far» || eqb xid other) ⌝ }
+{
+    if xid == other {
+        return true;
+    }
+    so_far
+}
+
 // Whether an xid is in a list.
 fn holds(list: &[u32], xid: u32) -> bool
     ensures { λ r. ⌜ r ≡ isIn xid (now (list .entry)) ⌝ }
 {
-    place_of(list, xid) < list.len()
+    // To the end in any case, so that several are compared at once.
+    let mut met = false;
+    for i in 0..list.len() {
+        met = meets(met, xid, list[i]);
+    }
+    met
 }
 
 // Whether xids that rose so far rise by one more.
@@ -100,7 +115,7 @@ fn rises(so_far: bool, one: u32, two: u32) -> bool
 fn is_rising(list: &[u32]) -> bool
     ensures { λ r. ⌜ r ≡ rising (now (list .entry)) ⌝ }
 {
-    // To the end in any case, so that several are compared at once.
+    // To the end in any case, as above.
     let mut rise = true;
     for i in 1..list.len() {
         rise = rises(rise, list[i - 1], list[i]);
@@ -139,7 +154,7 @@ fn is_unfit(xids: &[u32], count: u32, grant: u32) -> bool
     any_twice(&xids[..count as usize])
 }
 
-// The next xid behind the last that is not in the list, and how many before it are.
+// The next xid behind the last that is not in the list, and how many in the list were passed over.
 fn next_xid(list: &[u32], last: u32) -> FoundXid
     requires { ⌜ length (now list) < 32 ⌝ }
     ensures { λ r. ⌜ r ≡ record { xid = firstFree (length (now (list .entry))) (xidAfter last) (now (list .entry)); passed = runLength (xidsBehind maxInFlight last) (now (list .entry)) } ⌝ }

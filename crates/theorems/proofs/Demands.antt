@@ -54,8 +54,8 @@ use Rattle.returned.specs.Filled.{filled, Fills}
 use Rattle.returned.proofs.Fills as fills
 use Rattle.returned.proofs.Unused as unused
 use Rattle.returned.proofs.Lent as lent
-use Rattle.ledger.specs.Ledger.{inFlight, openAnswer, sendAnswer, sendLedger, replyNumber, replyLedger}
-use Rattle.ledger.specs.Conditions.{RunBehind, Next, StepsOn, SendGets, ReplyGets, Joined, Closed, SameCalls}
+use Rattle.ledger.specs.Ledger.{inFlight, openAnswer, firstFree, sendAnswer, sendLedger, replyNumber, replyLedger}
+use Rattle.ledger.specs.Conditions.{RunBehind, Next, SendGets, ReplyGets, Joined, Closed, SameCalls}
 use Rattle.ledger.specs.History.{Operation, history, ledgerAfter, SendSaid, Accounted}
 use Rattle.ledger.specs.declared.Ledger.{Ledger}
 use Rattle.ledger.proofs.Conditions as ledger-conditions
@@ -418,7 +418,7 @@ pub order-5-reply : (l : Ledger) (xid grant : ℕ) → ReplyGets l xid grant (re
 order-5-reply = ledger-conditions.reply-gets
 
 -- "Sending takes the next xid, one more than the last, wrapping to 0 behind the largest, and passing over xids still in flight": as many as the answer says (order 6).
-pub order-5-next : (l : Ledger) → length (l .xids) ≡ 32 → sendAnswer l .number ≡ 0 → Next l (sendAnswer l .xid) (sendAnswer l .passed)
+pub order-5-next : (l : Ledger) → sendAnswer l .number ≡ 0 → Next l (sendAnswer l .xid) (sendAnswer l .passed)
 unfolding sendAnswer
 order-5-next = ledger-conditions.next-is
 
@@ -449,22 +449,22 @@ order-5-refused = ledger-conditions.refused
 pub order-5-cases : All Holds ledgerCases
 order-5-cases = worked.booked
 
--- Order 6: "Return the number of xids passed over with each accepted send. It equals the length of the unbroken run of xids in flight that begins right behind the last one given": said by places, that run has so many xids, and no other number.
-pub order-6-run : (l : Ledger) → length (l .xids) ≡ 32 → sendAnswer l .number ≡ 0 → (n : ℕ) → (sendAnswer l .passed ≡ n → RunBehind l n) × (RunBehind l n → sendAnswer l .passed ≡ n)
+-- Order 6: "Return the number of xids passed over with each accepted send. It equals the length of the unbroken run of xids in flight that begins right behind the last one given": said by places, that run has so many xids, and there is no other such number. The xid that is given is the one behind it (`order-5-next`).
+pub order-6-run : (l : Ledger) → sendAnswer l .number ≡ 0 → (n : ℕ) → (sendAnswer l .passed ≡ n → RunBehind l n) × (RunBehind l n → sendAnswer l .passed ≡ n)
 unfolding sendAnswer
 order-6-run = ledger-conditions.run-is
 
 -- "and is at most the number in flight, so at most 31": those in flight before the send.
-pub order-6-most : (l : Ledger) → length (l .xids) ≡ 32 → sendAnswer l .number ≡ 0 → (sendAnswer l .passed ≤ l .count) × (sendAnswer l .passed ≤ 31)
+pub order-6-most : (l : Ledger) → sendAnswer l .number ≡ 0 → (sendAnswer l .passed ≤ l .count) × (sendAnswer l .passed ≤ 31)
 unfolding sendAnswer
 order-6-most = ledger-conditions.passed-most
 
--- "the number of xids passed over": the search for the xid steps on exactly so often, and comes so far behind the last one.
-pub order-6-search : (l : Ledger) → length (l .xids) ≡ 32 → sendAnswer l .number ≡ 0 →
-    StepsOn (sendAnswer l .passed) ((l .last + 1) % 4294967296) (sendAnswer l .xid) (inFlight l)
-    × (sendAnswer l .xid ≡ (l .last + 1 + sendAnswer l .passed) % 4294967296)
+-- "the number of xids passed over": the search that gives the xid steps on exactly so often. One that may step on k times does so k times if k is at most that number, and with any greater k it stops there, at the xid.
+pub order-6-search : (l : Ledger) → sendAnswer l .number ≡ 0 → (k : ℕ) →
+    (k ≤ sendAnswer l .passed → firstFree k ((l .last + 1) % 4294967296) (inFlight l) ≡ (l .last + 1 + k) % 4294967296)
+    × (sendAnswer l .passed ≤ k → firstFree k ((l .last + 1) % 4294967296) (inFlight l) ≡ sendAnswer l .xid)
 unfolding sendAnswer
-order-6-search = λ l long e. (ledger-conditions.search-is l long e, ledger-conditions.next-is l long e .is)
+order-6-search = ledger-conditions.search-is
 
 -- "A refused send reports 0."
 pub order-6-refused : (l : Ledger) → (sendAnswer l .number ≡ 0 → ⊥) → sendAnswer l .passed ≡ 0

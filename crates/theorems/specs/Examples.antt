@@ -711,7 +711,7 @@ ledgerCases =
     (ledgerOfCalls (4294967295 ∷ 1 ∷ []) 40 1)
     ∷ []
 
--- What order 6 says: runs behind the last xid, up to 31, in any order of sending; across the largest xid; broken, of which the first stretch counts; behind the last and not with it; none right behind it; not from the places behind those in flight; and refused sends.
+-- What order 6 says: runs behind the last xid, up to 31, in any order of sending; across the largest xid; broken, of which the first stretch counts; behind the last and not with it; none right behind it; xids that agree in their low bits alone; not from the places behind those in flight; and refused sends.
 abbrev pub passedCases : List Example
 passedCases =
     ledger-sends (ledgerOfCalls [] 1 5) 0 6 0 (ledgerOfCalls (6 ∷ []) 1 6)
@@ -730,6 +730,7 @@ passedCases =
     ∷ ledger-sends (ledgerOfCalls (7 ∷ 8 ∷ []) 3 5) 0 6 0 (ledgerOfCalls (7 ∷ 8 ∷ 6 ∷ []) 3 6)
     ∷ ledger-sends (ledgerOfCalls (3 ∷ 4 ∷ 5 ∷ []) 4 5) 0 6 0 (ledgerOfCalls (3 ∷ 4 ∷ 5 ∷ 6 ∷ []) 4 6)
     ∷ ledger-sends (ledgerOfCalls (4 ∷ 5 ∷ 6 ∷ []) 4 5) 0 7 1 (ledgerOfCalls (4 ∷ 5 ∷ 6 ∷ 7 ∷ []) 4 7)
+    ∷ ledger-sends (ledgerOfCalls (262 ∷ 65542 ∷ 2147483654 ∷ []) 4 5) 0 6 0 (ledgerOfCalls (262 ∷ 65542 ∷ 2147483654 ∷ 6 ∷ []) 4 6)
     ∷ ledger-sends (ledgerWith (6 ∷ 7 ∷ 8 ∷ []) 2 3 5) 0 8 2 (ledgerOfCalls (6 ∷ 7 ∷ 8 ∷ []) 3 8)
     ∷ ledger-sends (ledgerWith (8 ∷ []) 1 2 7) 0 9 1 (ledgerOfCalls (8 ∷ 9 ∷ []) 2 9)
     ∷ ledger-sends (ledgerOfCalls (6 ∷ 7 ∷ []) 2 5) 23 0 0 (ledgerOfCalls (6 ∷ 7 ∷ []) 2 5)

@@ -2,8 +2,8 @@
 //! copies. `bench --one CALL INPUT N` just makes N calls, for callgrind; CALL is a row's call
 //! behind lib-, plain- or copy-, INPUT the row's input. A fill is all pieces of a 1 MiB message; the
 //! 16 segments of fall16 are those of reads16 with falling positions. An input of send and reply ends
-//! with the number of calls in flight, their xids rising or across the wrap; pass31 passes all of them
-//! over, spent8 and unknown8 are refused. Each call is made on a fresh copy of the ledger, and the
+//! with the number of calls in flight, their xids rising, across the wrap or, fall31, falling; pass31 and
+//! fall31 pass all of them over, spent8 and unknown8 are refused. Each call is made on a fresh copy of the ledger, and the
 //! copying is counted whoever makes the call: `plain-copied` makes none.
 //! `bench --quadratic` compares, for send and reply, the plain calls with those that look for an xid
 //! twice pair by pair even where the xids rise: plain-send-quadratic and plain-reply-quadratic.
@@ -32,7 +32,7 @@ use std::time::Instant;
 
 const RUNS: usize = 21;
 
-const ROWS: [(&str, &str); 44] = [
+const ROWS: [(&str, &str); 45] = [
     ("read", "c2"),
     ("read", "reads16"),
     ("read", "fall16"),
@@ -71,6 +71,7 @@ const ROWS: [(&str, &str); 44] = [
     ("send", "flight31"),
     ("send", "wrap31"),
     ("send", "pass31"),
+    ("send", "fall31"),
     ("send", "spent8"),
     ("reply", "flight1"),
     ("reply", "flight8"),
@@ -144,13 +145,14 @@ fn input(name: &str) -> Input {
     let in_flight = match (name, name.strip_prefix("flight")) {
         ("wrap31", _) => rising(u32::MAX - 14, 31),
         ("pass31", _) => rising(1000, 31),
+        ("fall31", _) => rising(1000, 31).into_iter().rev().collect(),
         ("spent8" | "unknown8", _) => rising(1000, 8),
         (_, Some(count)) => rising(1000, count.parse().expect("a count")),
         _ => vec![],
     };
     let mut ledger = sent(&in_flight);
     match name {
-        "pass31" => ledger.last = 999,
+        "pass31" | "fall31" => ledger.last = 999,
         "spent8" => ledger.grant = 8,
         _ => {}
     }
