@@ -75,7 +75,7 @@ extern "C" {
 #define EOS_MAX_REPLY_SEGMENTS 16 /* in the reply chunk */
 #define EOS_MAX_MESSAGE 1048576   /* bytes of a reassembled message: room that always suffices */
 #define EOS_MAX_GOES 31           /* of one piece */
-#define EOS_MAX_HEADER 1024       /* bytes of a header to be written: room that always suffices */
+#define EOS_MAX_HEADER 960        /* bytes of the longest header: room that always suffices */
 #define EOS_MAX_REPLY 28          /* bytes of an error reply: room that always suffices */
 #define EOS_MAX_IN_FLIGHT 32      /* calls of a ledger */
 #define EOS_MAX_PASSED 31         /* xids that one send passes over */
@@ -112,7 +112,7 @@ enum eos_number {
     EOS_BYTES_MISSING = 19,      /* message asked for before all bytes are in */
     EOS_BAD_ARGUMENT = 20,       /* credit limit 0, a size out of rule, an answer number above 21; a kind or flag that
                                     does not exist, in a header or in setup data */
-    EOS_HEADER_LONG = 21,        /* a header to be written is longer than 1,024 bytes */
+    EOS_HEADER_LONG = 21,        /* reserved: never given */
     EOS_CREDIT_SPENT = 23,       /* the calls in flight reach or pass the grant or 32 */
     EOS_XID_UNKNOWN = 24,        /* a reply's xid is not in flight */
     EOS_GRANT_ZERO = 25,         /* a reply's grant is 0 */
@@ -234,7 +234,7 @@ struct eos_part eos_payload(const uint8_t *frame, size_t frame_len);
 
 /* Writes a header, its lists as they stand, to the front of a buffer and stores how many bytes it has; an inline payload is
  * the caller's to put right behind it. As with every writer, the bytes behind are kept. A header of zeros is MSG with empty
- * lists. Numbers 20, 12, 7, then entry by entry 9, then 21, 16. */
+ * lists. Numbers 20, 12, 7, then entry by entry 9, then 16. */
 uint32_t eos_write_header(const struct eos_header *header, uint8_t *out, size_t out_len, size_t *length);
 
 /* Reads setup data from the first 8 bytes, and whether there is any (present is 1). Where there is none, present is 0, the

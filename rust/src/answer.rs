@@ -2,7 +2,7 @@
 
 use std::fmt;
 
-/// The number of a refusal, 1 to 21 or 23 to 26; 8 is reserved and never given.
+/// The number of a refusal, 1 to 20 or 23 to 26; 8 and 21 are reserved and never given.
 #[derive(Clone, Copy, Debug, PartialEq, Eq)]
 pub struct Refusal(pub u32);
 
@@ -30,7 +30,7 @@ const TEXTS: [&str; 27] = [
     "piece longer than what is still to be pulled",
     "message asked for before all bytes are in",
     "bad argument: credit limit 0, a size out of rule, an answer number above 21",
-    "a header to be written is longer than 1,024 bytes",
+    "reserved: never given",
     // 22: no call answers it.
     NO_NUMBER,
     "the calls in flight reach or pass the grant or 32",

@@ -5,8 +5,8 @@ pub use crate::ffi::Segment;
 use crate::answer::{stored, Refusal};
 use crate::ffi;
 
-/// Room that suffices for every header that is written.
-pub const MAX_HEADER: usize = 1024;
+/// The bytes of the longest header: room that suffices for every one that is written.
+pub const MAX_HEADER: usize = 960;
 
 /// A segment to be pulled, and where in the message its bytes go.
 #[derive(Clone, Copy, Debug, Default, PartialEq, Eq)]

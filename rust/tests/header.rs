@@ -29,8 +29,16 @@ fn headers_read_back() {
     for header in [full(), empty, version, chunk, replying] {
         assert_eq!(Header::read(&written(&header)).as_ref(), Ok(&header));
     }
-    assert_eq!(written(&full()).len(), 960);
     assert_eq!(payload(&c6()), (1..=12).collect::<Vec<u8>>());
+}
+
+#[test]
+fn the_longest_header_fills_its_room() {
+    let mut room = [0; MAX_HEADER];
+    assert_eq!(full().write(&mut room[..959]), Err(Refusal(16)));
+    assert_eq!(room, [0; MAX_HEADER]);
+    assert_eq!((full().write(&mut room), MAX_HEADER), (Ok(960), 960));
+    assert_eq!(Header::read(&room), Ok(full()));
 }
 
 /// The bytes of a MSG frame with empty read segments at these positions.

@@ -35,6 +35,18 @@ fn the_version_is_echoed() {
 }
 
 #[test]
+fn a_number_that_is_never_given_gets_no_reply() {
+    let mut room = [7; MAX_REPLY];
+    for frame in [&c6()[..], &c6()[..15], &[]] {
+        assert_eq!(error_reply(frame, Refusal(21), 32, &mut room), Ok(&[][..]));
+        assert_eq!(error_reply(frame, Refusal(21), 32, &mut []), Ok(&[][..]));
+        assert_eq!(error_reply(frame, Refusal(21), 0, &mut room), Err(Refusal(20)));
+        assert_eq!(error_reply(frame, Refusal(22), 32, &mut room), Err(Refusal(20)));
+    }
+    assert_eq!(room, [7; MAX_REPLY]);
+}
+
+#[test]
 fn grants() {
     assert_eq!((grant(0, 32), grant(100, 32), grant(1, 0)), (Ok(1), Ok(32), Err(Refusal(20))));
 }
@@ -43,7 +55,7 @@ fn grants() {
 fn a_refusal_has_its_text() {
     assert_eq!(Refusal(8).to_string(), "reserved: never given");
     assert_eq!(Refusal(14).to_string(), "a chunk's position overlaps or lies past the base");
-    assert_eq!(Refusal(21).to_string(), "a header to be written is longer than 1,024 bytes");
+    assert_eq!(Refusal(21).to_string(), "reserved: never given");
     assert_eq!(Refusal(23).to_string(), "the calls in flight reach or pass the grant or 32");
     assert_eq!(Refusal(24).to_string(), "a reply's xid is not in flight");
     assert_eq!(Refusal(25).to_string(), "a reply's grant is 0");

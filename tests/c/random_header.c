@@ -4,7 +4,7 @@
 
 /* 8 is never given. */
 #define READ_NUMBERS (UP_TO(EOS_BYTES_BEHIND) & ~BIT(EOS_POSITION_FALLS))
-/* Without 21, which no header can get that is within the limits. */
+/* 21 is never given. */
 #define WRITE_NUMBERS                                                                                             \
     (BIT(EOS_DONE) | BIT(EOS_OVER_LIMIT) | BIT(EOS_POSITION_UNALIGNED) | BIT(EOS_KIND_AND_LISTS) |                \
      BIT(EOS_BUFFER_SHORT) | BIT(EOS_BAD_ARGUMENT))
@@ -202,16 +202,21 @@ static void damage_header(struct eos_header *h)
 
 /* ---- What must hold ---- */
 
+/* The most bytes that a header took: the longest there is has to come. */
+static size_t longest;
+
 /* Writes a header; what was written, read again, gives it with what is unused zeroed. */
 static void write_one(const struct eos_header *h)
 {
-    struct lent out = lend(below(2) ? EOS_MAX_HEADER : below(EOS_MAX_HEADER));
+    struct lent out = lend(below(2) ? EOS_MAX_HEADER - 1 + below(3) : below(EOS_MAX_HEADER));
     struct lent was = copy_of(out.bytes, out.length);
     struct eos_header back;
     uint32_t number;
     size_t length = write_header(h, out, &number);
     CHECK(length <= out.length && same_behind(out, was, length));
     CHECK((number == EOS_DONE) == (length > 0));
+    CHECK(length <= EOS_MAX_HEADER && (number != EOS_BUFFER_SHORT || out.length < EOS_MAX_HEADER));
+    longest = length > longest ? length : longest;
     if (number == EOS_DONE) {
         struct eos_header zeroed = plain(*h);
         CHECK(eos_read_header(out.bytes, length, &back) == EOS_DONE && memcmp(&back, &zeroed, sizeof back) == 0);
@@ -262,17 +267,37 @@ static struct lent long_list(void)
     return frame;
 }
 
+/* A header with its limits full, or nearly. */
+static struct eos_header long_header(void)
+{
+    struct eos_header h;
+    uint32_t room = EOS_MAX_WRITE_SEGMENTS;
+    noise(&h, sizeof h);
+    h.kind = below(2);
+    h.read_count = EOS_MAX_READ_SEGMENTS - (below(8) == 0);
+    for (uint32_t i = 0; i < h.read_count; i++)
+        h.reads[i].position &= ~3u;
+    h.write_chunks = EOS_MAX_WRITE_CHUNKS - (below(8) == 0);
+    for (uint32_t i = 0; i < h.write_chunks; i++)
+        room -= h.write_counts[i] = i + 1 < h.write_chunks ? below(room + 1) : room - (room > 0 && below(8) == 0);
+    h.reply_present = 1;
+    h.reply_count = EOS_MAX_REPLY_SEGMENTS - (below(8) == 0);
+    return h;
+}
+
 static void one_round(void)
 {
     struct lent frame = below(8) ? some_frame() : long_list();
     read_one(frame);
     give_back(frame);
 
-    struct eos_header h = some_header(4 * below(12));
+    struct eos_header h = below(8) ? some_header(4 * below(12)) : long_header();
     noise(h.reads + h.read_count, (EOS_MAX_READ_SEGMENTS - h.read_count) * sizeof *h.reads);
     if (below(2))
         damage_header(&h);
     write_one(&h);
+    if (round_at + 1 == 10000)
+        CHECK(longest == EOS_MAX_HEADER);
 }
 
 int main(int argc, char **argv)

@@ -81,6 +81,13 @@ static void replying(void)
     /* 8 is never given, and still has its reply. */
     EXPECT(eos_error_reply(frame, sizeof frame, EOS_POSITION_FALLS, 7, out, sizeof out, &length) == EOS_DONE);
     EXPECT(length == 20 && eos_read_header(out, 20, &h) == EOS_DONE && h.kind == EOS_ERROR_CHUNK);
+    /* 21 is never given, and still taken: it gets none, with room or without. */
+    memset(out, 0xee, sizeof out);
+    EXPECT(eos_error_reply(frame, sizeof frame, EOS_HEADER_LONG, 7, out, sizeof out, &length) == EOS_DONE);
+    EXPECT(length == 0 && out[0] == 0xee);
+    length = 99;
+    EXPECT(eos_error_reply(c2, sizeof c2, EOS_HEADER_LONG, 1, out, 0, &length) == EOS_DONE && length == 0);
+    EXPECT(eos_error_reply(c2, sizeof c2, EOS_HEADER_LONG, 0, out, 0, &length) == EOS_BAD_ARGUMENT);
     EXPECT(eos_error_reply(frame, sizeof frame, EOS_DONE, 32, out, 0, &length) == EOS_DONE && length == 0);
 }
 
@@ -106,13 +113,26 @@ static void writing(void)
     h.credit = 0x9abcdef0;
 
     EXPECT(eos_write_header(&h, out, 959, &length) == EOS_BUFFER_SHORT && length == 99);
-    EXPECT(eos_write_header(&h, out, sizeof out, &length) == EOS_DONE && length == 960);
+    EXPECT(eos_write_header(&h, out, sizeof out, &length) == EOS_DONE && length == 960 && length == sizeof out);
     EXPECT(eos_read_header(out, length, &back) == EOS_DONE && memcmp(&back, &h, sizeof h) == 0);
     /* Reserved words are ignored, and zero in what is read. */
     h.reserved = 1;
     h.reads[3].reserved = 1;
     EXPECT(eos_write_header(&h, out, sizeof out, &length) == EOS_DONE && eos_read_header(out, length, &h) == EOS_DONE);
     EXPECT(memcmp(&back, &h, sizeof h) == 0);
+    /* One more in any count is over its limit: no header is longer. */
+    length = 99;
+    h.read_count++;
+    EXPECT(eos_write_header(&h, out, sizeof out, &length) == EOS_OVER_LIMIT);
+    h.read_count--;
+    h.write_counts[1]++;
+    EXPECT(eos_write_header(&h, out, sizeof out, &length) == EOS_OVER_LIMIT);
+    h.write_counts[1]--;
+    h.write_chunks++;
+    EXPECT(eos_write_header(&h, out, sizeof out, &length) == EOS_OVER_LIMIT);
+    h.write_chunks--;
+    h.reply_count++;
+    EXPECT(eos_write_header(&h, out, sizeof out, &length) == EOS_OVER_LIMIT && length == 99);
 
     struct eos_header e = {.kind = EOS_ERROR_VERSION, .low = 5, .high = 6, .xid = 7, .credit = 8};
     EXPECT(eos_write_header(&e, out, sizeof out, &length) == EOS_DONE && length == 28);

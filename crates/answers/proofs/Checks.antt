@@ -17,10 +17,14 @@ pub neither : (a b : Bool) → (a || b) ≡ false → (a ≡ false) × (b ≡ fa
 neither false b h = (refl, h)
 neither true b h = absurd (let z : _≡_ {A = ℕ} 0 1 = cc in omega arith)
 
--- A check that gives 0 was passed.
+-- A check that gives another number than its own was passed, and the number comes from behind it.
+pub check-other : (holds : Bool) (n next given : ℕ) → (n ≡ given → ⊥) → check holds n next ≡ given → (holds ≡ true) × (next ≡ given)
+check-other true n next given h e = (refl, e)
+check-other false n next given h e = absurd (h e)
+
+-- So one that gives 0.
 pub check-passed : (holds : Bool) (n next : ℕ) → 0 < n → check holds n next ≡ 0 → (holds ≡ true) × (next ≡ 0)
-check-passed true n next p e = (refl, e)
-check-passed false n next p e = absurd (omega arith)
+check-passed holds n next p e = check-other holds n next 0 (λ z. omega arith) e
 
 -- A refused call leaves what it would have stored.
 pub kept : {A : Type 0} (n : ℕ) (made before : A) → (n ≡ 0 → ⊥) → unlessRefused n made before ≡ before

@@ -44,7 +44,7 @@ pub const PIECE_LONG: u32 = 18;
 pub const BYTES_MISSING: u32 = 19;
 // "bad argument: credit limit 0, a size out of rule, an answer number above 21"
 pub const BAD_ARGUMENT: u32 = 20;
-// "a header to be written is longer than 1,024 bytes"
+// "a header to be written is longer than 1,024 bytes"; since order 7 "never given", and reserved
 pub const HEADER_LONG: u32 = 21;
 // Of order 5: "it is refused with 23 exactly if the calls in flight reach or pass the grant or 32"
 pub const CREDIT_SPENT: u32 = 23;

@@ -247,6 +247,16 @@ error-unanswered frame number four = rw (eq-eqb (wordAt frame 12) 4 four) (eithe
     either true = refl
     either false = refl
 
+-- A number for which the table has none gets none, whatever the frame.
+number-unanswered : (frame : List ℕ) (number : ℕ) → replyKindOf number ≡ reply.None → replyKindFor frame number ≡ reply.None
+unfolding replyKindFor
+number-unanswered frame number none-there = rw none-there (either (leb 16 (length frame)) (eqb (wordAt frame 12) 4))
+  where
+    either : (t u : Bool) → cond t (cond u reply.None reply.None) reply.None ≡ reply.None
+    either true true = refl
+    either true false = refl
+    either false u = refl
+
 -- "no reply (number 0, length 0, buffer unchanged)"
 pub no-reply : (frame out : List ℕ) (number limit : ℕ) → 1 ≤ limit → number ≤ 21 → replyKindFor frame number ≡ reply.None →
     (errorReplyAnswer frame number limit (length out) ≡ record { number = 0; length = 0 })
@@ -254,6 +264,13 @@ pub no-reply : (frame out : List ℕ) (number limit : ℕ) → 1 ≤ limit → n
 unfolding errorReplyAnswer errorReplyBuffer errorReplyNumber errorReply words joined
 no-reply frame out number limit some-limit known none-meant =
     simp (le-leb 1 limit some-limit, le-leb number 21 known, none-meant, le-leb 0 (length out) (omega arith)) (refl, refl)
+
+-- Order 7, of 21: "The error reply still takes it as an argument and answers none."
+pub takes-21 : (frame out : List ℕ) (limit : ℕ) → 1 ≤ limit →
+    (errorReplyAnswer frame 21 limit (length out) ≡ record { number = 0; length = 0 })
+    × (errorReplyBuffer frame 21 limit out ≡ out)
+unfolding replyKindOf
+takes-21 frame out limit some-limit = no-reply frame out 21 limit some-limit (omega arith) (number-unanswered frame 21 refl)
 
 -- An error reply is itself never answered: two sides cannot go on answering each other.
 unanswered : (kind : ReplyKind) (xid version credit number : ℕ) → replyKindFor (words (replyWords kind xid version credit)) number ≡ reply.None

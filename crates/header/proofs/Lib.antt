@@ -5,3 +5,4 @@ pub mod Allowed
 pub mod Contents
 pub mod Representable
 pub mod Zeroed
+pub mod Longest

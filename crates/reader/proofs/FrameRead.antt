@@ -4,10 +4,10 @@ use mathlib.Core.Path.{_≡_, refl, sym, subst, _∙_}
 use mathlib.Core.Bool.{Bool, true, false, cond}
 use mathlib.Core.List.{List, [], _∷_, _++_, append-assoc}
 use mathlib.Core.Option.{Option}
-use Prim.Native.Nat.{ℕ, _≤_}
+use Prim.Native.Nat.{ℕ, _+_, _≤_}
 use native.Mathlib.Omega.{arith}
 use borrow.Author.Tests.{leb-true, eqb-true}
-use lib.ListN.{length, drop}
+use lib.ListN.{length, drop, length-append}
 use lib.Seq.{drop-drop}
 use lib.Dec.{leb, eqb}
 use Rattle.wire.specs.Wire.{wordAt, wordOf, wordBytes}
@@ -28,6 +28,7 @@ use Rattle.wire.specs.declared.ReadSegment.{ReadSegment}
 use Rattle.wire.specs.declared.Word.{Word}
 use Rattle.wire.specs.declared.Word.the-variants as word
 use Rattle.header.proofs.Allowed.{Allowed, BareIfError, Behind}
+use Rattle.header.proofs.Longest.{header-most, allowed-limited}
 use Rattle.wire.proofs.WordBytes.{bytes-drop, word-fits, word-front}
 use Rattle.reader.proofs.WriteBack.{done-same, bytes-behind, word-of-front, ReadListRead, read-list-done, WriteListRead, write-list-done, ReplyRead, reply-done}
 use Rattle.chunk_lists.proofs.ListSteps.{never, required, both}
@@ -243,3 +244,10 @@ frame-done s c t b e =
       allowed = r .body .allowed;
       behind = simp (r .body .same-kind) (r .behind);
     }
+
+-- Its header takes at most 960 bytes.
+pub frame-most : (s : List ℕ) (c : Content) (t : List ℕ) → AllBytes s → readFrame s ≡ done c t → length s ≤ 960 + length t
+frame-most s c t b e =
+    let f = frame-done s c t b e in
+    let most = header-most c (allowed-limited c (f .allowed)) in
+    rw (← (f .bytes), length-append) (omega arith)

@@ -4,7 +4,7 @@
 use mathlib.Core.Path.{_≡_, refl}
 use mathlib.Core.Bool.{true, false, cond, _&&_}
 use mathlib.Core.List.{List, [], _∷_, _++_, map}
-use mathlib.Core.Option.{some}
+use mathlib.Core.Option.{Option, some}
 use Prim.Native.Nat.{ℕ, _+_, _-_, _/_, _%_, _≤_, _<_}
 use lib.Dec.{eqb}
 use lib.ListN.{length, getD, take, drop, replicate}
@@ -15,15 +15,20 @@ use Rattle.wire.specs.declared.Segment.{Segment}
 use Rattle.wire.specs.declared.ReadSegment.{ReadSegment}
 use Rattle.chunk_lists.specs.Parsed.{done}
 use Rattle.chunk_lists.specs.Lists.{readList}
-use Rattle.header.specs.Bytes.{readListBytes}
+use Rattle.header.specs.Bytes.{readListBytes, headerBytes}
 use Rattle.header.specs.Content.{Content, padded, headerOf, contentOf, nothing}
 use Rattle.header.specs.Limits.{keepsLimits}
 use Rattle.header.specs.Fits.{Representable, zeroed}
 use Rattle.header.specs.Words.{headerIn, headerWords}
 use Rattle.header.specs.declared.Header.{Header}
 use Rattle.header.specs.declared.ErrorKind.{ErrorKind}
+use Rattle.header.proofs.Longest as longest
 use Rattle.reader.specs.Frame.{readFrame, readAnswer, readNumber, readWords, payloadOf, errorContent}
+use Rattle.reader.proofs.FrameRead as frame-read
 use Rattle.writer.specs.Write.{writeNumber, writeAnswer, writeBuffer, writeWordsAnswer, writeWordsBuffer}
+use Rattle.writer.proofs.Former as former
+use Rattle.writer.proofs.Former.{formerAnswer, formerBuffer}
+use Rattle.writer.proofs.Passed as written
 use Rattle.writer.proofs.RoundTrip as header-trip
 use Rattle.setup.specs.Setup.{readSetup, writeSetupNumber, writeSetupAnswer, writeSetupBuffer}
 use Rattle.setup.specs.declared.Setup.{Setup}
@@ -71,7 +76,7 @@ use Rattle.theorems.specs.Cuts.{CutOf}
 use Rattle.theorems.specs.Demands.{takenBytes, Finished, Unchanged}
 use Rattle.theorems.specs.Reserved.{NeverGiven}
 use Rattle.theorems.specs.Exports.{exportThen}
-use Rattle.theorems.specs.Examples.{Holds, examples, numbers, edges, returnedCases, goesCases, orderCases, echoCases, ledgerCases, passedCases}
+use Rattle.theorems.specs.Examples.{Holds, examples, numbers, edges, returnedCases, goesCases, orderCases, echoCases, ledgerCases, passedCases, full, longestCases}
 use Rattle.theorems.proofs.Message as message
 use Rattle.theorems.proofs.Demand3 as demand-three
 use Rattle.theorems.proofs.Exports as exports
@@ -306,7 +311,7 @@ order-2-cases = worked.goes-taken
 
 -- Order 3: "8 is never given again and stays reserved." (That it gets its chunk reply as an argument of the error reply is a case of `order-3-cases`.)
 pub order-3-never-8 : NeverGiven 8
-order-3-never-8 = reserved.never-eight
+order-3-never-8 = reserved.never-given 8 refl
 
 -- "For reassembly the list of read segments is sorted where it lies, by position, segments of one position staying in wire order.": `sorted` is that list, nothing else is, and a list that is sorted stays as it is.
 pub order-3-sorted : (wire : List ReadSegment) → SortedOf wire (sorted wire)
@@ -478,3 +483,40 @@ order-6-history = ledger-history.next-send
 -- Order 6, case by case.
 pub order-6-cases : All Holds passedCases
 order-6-cases = worked.passed
+
+-- Order 7: "no header passes 960 bytes." One that passes 7 does not, from the limits alone: neither a room nor a check of its length is asked, nor 12.
+pub order-7-longest : (h : Header) → keepsLimits h ≡ true → length (headerBytes (contentOf h)) ≤ 960
+order-7-longest = longest.longest
+
+-- And 960 is reached, by C13's header.
+pub order-7-reached : (writeAnswer full 960 ≡ record { number = 0; length = 960 }) × (writeAnswer full 959 ≡ record { number = 16; length = 0 })
+order-7-reached = worked.reached
+
+-- Nor does the header of a frame that was read.
+pub order-7-read : (frame : List ℕ) (c : Content) (payload : List ℕ) → AllBytes frame → readFrame frame ≡ done c payload → length frame ≤ 960 + length payload
+order-7-read = frame-read.frame-most
+
+-- "Show that it cannot be given": by the writer as it was, whose definition stands beside that proof, for a header by value (`some h`) and for one that is lent.
+pub order-7-could-not : (h : Option Header) (room : ℕ) → formerAnswer h room .number ≡ 21 → ⊥
+order-7-could-not = reserved.former-never
+
+-- "and take the check out of the writer": it answers as it did, for every header and every buffer.
+pub order-7-as-before : (h : Option Header) (out : List ℕ) → (writeWordsAnswer h (length out) ≡ formerAnswer h (length out)) × (writeWordsBuffer h out ≡ formerBuffer h out)
+order-7-as-before = former.as-before
+
+-- "the number stays reserved and is never given"
+pub order-7-never-21 : NeverGiven 21
+order-7-never-21 = reserved.never-given 21 refl
+
+-- 960 bytes are room that always suffices (`EOS_MAX_HEADER`).
+pub order-7-suffices : (h : Option Header) (room : ℕ) → 960 ≤ room → writeWordsAnswer h room .number ≡ 16 → ⊥
+order-7-suffices = written.room-suffices
+
+-- "The error reply still takes it as an argument and answers none.": 20 is for limit 0 alone (`reply-limit-zero`).
+pub order-7-reply : (frame out : List ℕ) (limit : ℕ) → 1 ≤ limit →
+    (errorReplyAnswer frame 21 limit (length out) ≡ record { number = 0; length = 0 }) × (errorReplyBuffer frame 21 limit out ≡ out)
+order-7-reply = reply-read.takes-21
+
+-- Order 7, case by case.
+pub order-7-cases : All Holds longestCases
+order-7-cases = worked.within-960

@@ -1,6 +1,6 @@
 -- The worked examples hold.
 -- Assumes nothing.
-use mathlib.Core.Path.{refl}
+use mathlib.Core.Path.{_≡_, refl}
 use Rattle.wire.specs.Wire.{wordAt, wordOf, segmentAt, readSegmentAt, joined, wordBytes, words, segmentBytes, readSegmentBytes}
 use Rattle.chunk_lists.specs.Lists.{markerOf, readEntry, readList, segments, counted, writeList, replyChunk, allAligned}
 use Rattle.chunk_lists.specs.Parsed.{each}
@@ -25,7 +25,7 @@ use Rattle.assembly.specs.Assembly.{canArise, pieceNumber, pieceGoes, pieceBuff
 use Rattle.assembly_state.specs.Words.{stateKind, partsIn, stateWords, withTaken}
 use Rattle.theorems.specs.Calls.{runCalls}
 use Rattle.wire.specs.Fits.{All}
-use Rattle.theorems.specs.Examples.{Holds, entryWords, examples, numbers, edges, returnedCases, pieceAnswers, goesCases, handleWords, listWords, orderCases, echoCases, ledgerCases, passedCases}
+use Rattle.theorems.specs.Examples.{Holds, entryWords, examples, numbers, edges, returnedCases, pieceAnswers, goesCases, handleWords, listWords, orderCases, echoCases, ledgerCases, passedCases, full, longestCases}
 use Rattle.header.specs.Words.{kindIn, headerIn, headerWords}
 use Rattle.c_setup.specs.Words.{agreementWords}
 use Rattle.ledger.specs.Ledger.{openAnswer, isIn, anyTwice, unfit, firstFree, nextXid, spent, sendNumber, xidsBehind, runLength, passedOver, sendAnswer, sendLedger, replyNumber, without, replyLedger}
@@ -76,3 +76,13 @@ booked = (refl, (refl, ((refl, refl), ((refl, refl), ((refl, refl), ((refl, refl
 pub passed : All Holds passedCases
 unfolding All from isIn anyTwice unfit firstFree nextXid spent sendNumber xidsBehind runLength passedOver sendAnswer sendLedger
 passed = ((refl, refl), ((refl, refl), ((refl, refl), ((refl, refl), ((refl, refl), ((refl, refl), ((refl, refl), ((refl, refl), ((refl, refl), ((refl, refl), ((refl, refl), ((refl, refl), ((refl, refl), ((refl, refl), ((refl, refl), ((refl, refl), ((refl, refl), ((refl, refl), ((refl, refl), ((refl, refl), ((refl, refl), ((refl, refl), ((refl, refl), ((refl, refl), ((refl, refl), tt)))))))))))))))))))))))))
+
+-- Order 7: C13's header takes all of 960 bytes, and is not written into one less.
+pub reached : (writeAnswer full 960 ≡ record { number = 0; length = 960 }) × (writeAnswer full 959 ≡ record { number = 16; length = 0 })
+unfolding joined wordBytes writeAnswer writeNumber withinLimits total entriesNumber headerOf contentOf runs headerBytes fixedBytes readListBytes writeListBytes replyBytes chunkBytes countedBytes entryBytes segmentBytes readSegmentBytes
+reached = (refl, refl)
+
+-- Order 7, case by case.
+pub within-960 : All Holds longestCases
+unfolding All words joined wordBytes readFrame byProcedure threeParts errorBody readList readEntry segments counted each writeList replyChunk markerOf wordOf wordAt segmentAt readSegmentAt writeAnswer writeBuffer writeNumber withinLimits total entriesNumber headerOf contentOf runs headerBytes fixedBytes readListBytes writeListBytes replyBytes chunkBytes countedBytes entryBytes errorBytes segmentBytes readSegmentBytes granted replyKindOf replyKindFor errorReply errorReplyNumber errorReplyAnswer errorReplyBuffer
+within-960 = ((refl, refl), (refl, (refl, ((refl, refl), ((refl, refl), ((refl, refl), ((refl, refl), ((refl, refl), ((refl, refl), (refl, (refl, (refl, (refl, (refl, (refl, (refl, ((refl, refl), (refl, ((refl, refl), ((refl, refl), ((refl, refl), ((refl, refl), (refl, (refl, (refl, tt)))))))))))))))))))))))))

@@ -1,8 +1,8 @@
--- No call gives 8.
+-- No call gives 8 or 21.
 -- Assumes nothing.
 use Prim.Native.Nat.{ℕ, zero, suc, _+_, _-_, _*_, _%_}
-use mathlib.Core.Path.{_≡_}
-use mathlib.Core.Bool.{Bool, true, false, cond, not, _&&_}
+use mathlib.Core.Path.{_≡_, refl, _∙_}
+use mathlib.Core.Bool.{Bool, true, false, cond, not, _&&_, _||_}
 use mathlib.Core.List.{List, [], _∷_}
 use mathlib.Core.Option.{Option, none, some}
 use native.Mathlib.Omega.{arith}
@@ -24,6 +24,7 @@ use Rattle.header.specs.Limits.{keepsLimits}
 use Rattle.header.specs.Bytes.{headerBytes}
 use Rattle.reader.specs.Frame.{threeParts, errorContent, errorBody, nothingBehind, byProcedure, readFrame, readAnswer, readNumber}
 use Rattle.writer.specs.Write.{bareIfError, entriesNumber, writeNumber, writeAnswer, writeWordsAnswer}
+use Rattle.writer.proofs.Former.{formerAnswer, same-number}
 use Rattle.setup.specs.Setup.{isSetup, setupAt, noSetup, readSetup, setupInRule, setupBytes, noAgreement, writeSetupNumber, writeSetupAnswer, agreement}
 use Rattle.setup.specs.declared.Setup.{Setup}
 use Rattle.setup.specs.declared.Agreement.{Agreement}
@@ -42,8 +43,12 @@ use Rattle.ledger.specs.declared.Ledger.{Ledger}
 use Rattle.returned.specs.Returned.{mismatch, returnedNumber, returnedAnswer, returnedWordsNumber}
 use Rattle.theorems.specs.Reserved.{NeverGiven}
 
+abbrev isReserved : ℕ → Bool
+isReserved n = eqb n 8 || eqb n 21
+
+-- Another number than these.
 abbrev Other : ℕ → Type 0
-Other n = n ≡ 8 → ⊥
+Other n = isReserved n ≡ false
 
 -- A row of checks.
 other-check : (holds : Bool) (n next : ℕ) → Other n → Other next → Other (check holds n next)
@@ -70,7 +75,7 @@ other-prepend : {A : Type 0} (x : A) (p : Parsed (List A)) → OtherRead p → O
 other-prepend x p a = other-then p (λ xs t. done (x ∷ xs) t) a (λ xs t. tt)
 
 five : Other 5
-five e = omega arith
+five = refl
 
 other-word : {A : Type 0} (s : List ℕ) (f : ℕ → Parsed A) → ((x : ℕ) → OtherRead (f x)) → OtherRead (afterWord (wordOf s) f)
 unfolding wordOf
@@ -87,18 +92,18 @@ other-optional absent f s a = by (leb 4 (length s))
     value : (x y : Bool) → OtherRead (afterMarker (cond x marker.End (cond y marker.Entry (marker.Refused 6))) (drop 4 s) absent f)
     value true y = tt
     value false true = a (drop 4 s)
-    value false false = λ e. omega arith
+    value false false = refl
 
     by : (b : Bool) → OtherRead (afterMarker (markerWord (cond b (word.Value (wordAt s 0)) (word.Refused 5))) (drop 4 s) absent f)
     by true = value (eqb (wordAt s 0) 0) (eqb (wordAt s 0) 1)
     by false = five
 
 seven : Other 7
-seven e = omega arith
+seven = refl
 
 other-entry : (s : List ℕ) → OtherRead (readEntry s)
 unfolding readEntry
-other-entry s = other-require (leb 20 (length s)) 5 _ five (other-require (isAligned (wordAt s 0)) 9 _ (λ e. omega arith) tt)
+other-entry s = other-require (leb 20 (length s)) 5 _ five (other-require (isAligned (wordAt s 0)) 9 _ refl tt)
 
 other-reads : (room : ℕ) (s : List ℕ) → OtherRead (readList room s)
 unfolding readList
@@ -133,27 +138,27 @@ unfolding errorBody
 other-error xid credit s =
     other-word s _ (λ code. other-cond (eqb code 1) _ _
     (other-word (drop 4 s) _ (λ low. other-word (drop 8 s) (λ high. done (errorContent (Version low high) xid credit) (drop 12 s)) (λ high. tt)))
-    (other-cond (eqb code 2) (done (errorContent Chunk xid credit) (drop 4 s)) (refused 10) tt (λ e. omega arith)))
+    (other-cond (eqb code 2) (done (errorContent Chunk xid credit) (drop 4 s)) (refused 10) tt refl))
 
 other-last : (p : Parsed Content) → OtherRead p → OtherRead (nothingBehind p)
-other-last p a = other-then p _ a (λ c t. other-require (eqb (length t) 0) 11 (done c t) (λ e. omega arith) tt)
+other-last p a = other-then p _ a (λ c t. other-require (eqb (length t) 0) 11 (done c t) refl tt)
 
 other-procedure : (procedure xid credit : ℕ) (s : List ℕ) → OtherRead (byProcedure procedure xid credit s)
 unfolding byProcedure
 other-procedure procedure xid credit s =
     other-cond (eqb procedure 0) (threeParts Msg xid credit s) _ (other-parts Msg xid credit s)
     (other-cond (eqb procedure 1) (nothingBehind (threeParts Nomsg xid credit s)) _ (other-last (threeParts Nomsg xid credit s) (other-parts Nomsg xid credit s))
-    (other-cond (eqb procedure 3) (refused 4) _ (λ e. omega arith)
-    (other-cond (eqb procedure 4) (nothingBehind (errorBody xid credit s)) (refused 3) (other-last (errorBody xid credit s) (other-error xid credit s)) (λ e. omega arith))))
+    (other-cond (eqb procedure 3) (refused 4) _ refl
+    (other-cond (eqb procedure 4) (nothingBehind (errorBody xid credit s)) (refused 3) (other-last (errorBody xid credit s) (other-error xid credit s)) refl)))
 
 other-frame : (s : List ℕ) → OtherRead (readFrame s)
 unfolding readFrame
 other-frame s =
-    other-require (leb 16 (length s)) 1 _ (λ e. omega arith)
-    (other-require (eqb (wordAt s 4) 1) 2 (byProcedure (wordAt s 12) (wordAt s 0) (wordAt s 8) (drop 16 s)) (λ e. omega arith) (other-procedure (wordAt s 12) (wordAt s 0) (wordAt s 8) (drop 16 s)))
+    other-require (leb 16 (length s)) 1 _ refl
+    (other-require (eqb (wordAt s 4) 1) 2 (byProcedure (wordAt s 12) (wordAt s 0) (wordAt s 8) (drop 16 s)) refl (other-procedure (wordAt s 12) (wordAt s 0) (wordAt s 8) (drop 16 s)))
 
 never : Other 0
-never e = omega arith
+never = refl
 
 other-answer : (p : Parsed Content) → OtherRead p → Other (readAnswer p .number) × Other (readNumber p)
 other-answer (refused n) a = (a, a)
@@ -163,32 +168,31 @@ other-answer (done c t) a = (never, never)
 other-entries : (l : List ReadSegment) (next : ℕ) → Other next → Other (entriesNumber l next)
 unfolding entriesNumber
 other-entries [] next a = a
-other-entries (x ∷ xs) next a = other-check (isAligned (x .position)) 9 (entriesNumber xs next) (λ e. omega arith) (other-entries xs next a)
+other-entries (x ∷ xs) next a = other-check (isAligned (x .position)) 9 (entriesNumber xs next) refl (other-entries xs next a)
 
 other-room : (bytes : List ℕ) (room : ℕ) → Other (roomNumber bytes room)
-other-room bytes room = other-check (leb (length bytes) room) 16 0 (λ e. omega arith) never
+other-room bytes room = other-check (leb (length bytes) room) 16 0 refl never
 
 other-writing : (h : Header) (room : ℕ) → Other (writeNumber h room)
 unfolding writeNumber
 other-writing h room =
-    other-check (bareIfError (h .kind) (h .reads .count) (h .writes .chunks) (h .reply .present)) 12 _ (λ e. omega arith)
+    other-check (bareIfError (h .kind) (h .reads .count) (h .writes .chunks) (h .reply .present)) 12 _ refl
     (other-check (keepsLimits h) 7 _ seven
-    (other-entries (contentOf h .reads) _
-    (other-check (leb (length (headerBytes (contentOf h))) 1024) 21 _ (λ e. omega arith) (other-room (headerBytes (contentOf h)) room))))
+    (other-entries (contentOf h .reads) _ (other-room (headerBytes (contentOf h)) room)))
 
 other-words : (h : Option Header) (room : ℕ) → Other (writeWordsAnswer h room .number)
 unfolding writeAnswer
-other-words none room = λ e. omega arith
+other-words none room = refl
 other-words (some h) room = other-writing h room
 
 other-place : (kind : Kind) (atZero : Bool) (base : ℕ) (cs : List Run) (room : ℕ) → Other (placeNumber kind atZero base cs room)
 unfolding placeNumber
 other-place kind atZero base cs room =
-    other-check (kindFits kind atZero) 12 _ (λ e. omega arith)
-    (other-check (eqb (base % 4) 0) 13 _ (λ e. omega arith)
-    (other-check (stands base 0 0 cs) 14 _ (λ e. omega arith)
-    (other-check (leb (messageLength base cs) 1048576) 15 _ (λ e. omega arith)
-    (other-check (leb (messageLength base cs) room) 16 0 (λ e. omega arith) never))))
+    other-check (kindFits kind atZero) 12 _ refl
+    (other-check (eqb (base % 4) 0) 13 _ refl
+    (other-check (stands base 0 0 cs) 14 _ refl
+    (other-check (leb (messageLength base cs) 1048576) 15 _ refl
+    (other-check (leb (messageLength base cs) room) 16 0 refl never))))
 
 other-start : (p : Parsed Content) (room : ℕ) → OtherRead p → Other (startNumber p room)
 unfolding startNumber
@@ -205,7 +209,7 @@ other-setup-read bytes = by (isSetup bytes)
 
 other-setup : (x : Setup) (room : ℕ) → Other (writeSetupNumber x room)
 unfolding writeSetupNumber
-other-setup x room = other-check (setupInRule x) 20 _ (λ e. omega arith) (other-room (setupBytes x) room)
+other-setup x room = other-check (setupInRule x) 20 _ refl (other-room (setupBytes x) room)
 
 other-agreement : (client server : Setup) → Other (agreement client server .number)
 unfolding agreement
@@ -213,7 +217,7 @@ other-agreement client server = by (setupInRule client && setupInRule server) _ 
   where
     by : (b : Bool) (x : Agreement) → Other (x .number) → Other (cond b x noAgreement .number)
     by true x a = a
-    by false x a = λ e. omega arith
+    by false x a = refl
 
 other-setup-words : (w : List ℕ) (room : ℕ) → Other (writeSetupWordsAnswer w room .number)
 unfolding writeSetupWordsAnswer writeSetupAnswer
@@ -221,7 +225,7 @@ other-setup-words w room = by (flagFits w)
   where
     by : (b : Bool) → Other (cond b (writeSetupAnswer (setupIn w) room) (record { number = 20; length = 0 }) .number)
     by true = other-setup (setupIn w) room
-    by false = λ e. omega arith
+    by false = refl
 
 other-agreement-words : (client server : List ℕ) → Other (agreeWordsAnswer client server .number)
 unfolding agreeWordsAnswer
@@ -229,7 +233,7 @@ other-agreement-words client server = by (flagFits client && flagFits server)
   where
     by : (b : Bool) → Other (cond b (agreement (setupIn client) (setupIn server)) noAgreement .number)
     by true = other-agreement (setupIn client) (setupIn server)
-    by false = λ e. omega arith
+    by false = refl
 
 other-grant : (asked limit : ℕ) → Other (grantAnswer asked limit .number)
 unfolding grantAnswer
@@ -237,57 +241,68 @@ other-grant asked limit = by (leb 1 limit)
   where
     by : (b : Bool) → Other (cond {A = GrantAnswer} b (record { credit = granted asked limit; number = 0 }) (record { credit = 0; number = 20 }) .number)
     by true = never
-    by false = λ e. omega arith
+    by false = refl
 
 other-reply-number : (frame : List ℕ) (number limit room : ℕ) → Other (errorReplyNumber frame number limit room)
 unfolding errorReplyNumber
-other-reply-number frame number limit room = other-check (leb 1 limit && leb number 21) 20 _ (λ e. omega arith) (other-room (errorReply frame number limit) room)
+other-reply-number frame number limit room = other-check (leb 1 limit && leb number 21) 20 _ refl (other-room (errorReply frame number limit) room)
 
 other-returned : (sent reply : Header) → Other (returnedNumber sent reply)
 unfolding returnedNumber
-other-returned sent reply = other-check (keepsLimits sent && keepsLimits reply) 7 _ seven (other-check (not (mismatch (contentOf sent) (contentOf reply))) 26 0 (λ e. omega arith) never)
+other-returned sent reply = other-check (keepsLimits sent && keepsLimits reply) 7 _ seven (other-check (not (mismatch (contentOf sent) (contentOf reply))) 26 0 refl never)
 
 other-returned-words : (sent reply : Option Header) → Other (returnedWordsNumber sent reply)
-other-returned-words none reply = λ e. omega arith
-other-returned-words (some sent) none = λ e. omega arith
+other-returned-words none reply = refl
+other-returned-words (some sent) none = refl
 other-returned-words (some sent) (some reply) = other-returned sent reply
 
 other-piece : (s : State) (room size : ℕ) → Other (pieceNumber s room size)
 unfolding pieceNumber
-other-piece s room size = other-check (fitsState s room) 17 _ (λ e. omega arith) (other-check (leb (s .taken + size) (length (pulledOf s))) 18 0 (λ e. omega arith) never)
+other-piece s room size = other-check (fitsState s room) 17 _ refl (other-check (leb (s .taken + size) (length (pulledOf s))) 18 0 refl never)
 
 other-asking : (s : State) (room : ℕ) → Other (messageNumber s room)
 unfolding messageNumber
-other-asking s room = other-check (fitsState s room) 17 _ (λ e. omega arith) (other-check (eqb (s .taken) (length (pulledOf s))) 19 0 (λ e. omega arith) never)
+other-asking s room = other-check (fitsState s room) 17 _ refl (other-check (eqb (s .taken) (length (pulledOf s))) 19 0 refl never)
 
 other-sent : (l : Ledger) → Other (sendNumber l)
 unfolding sendNumber
-other-sent l = other-check (not (unfit l)) 17 _ (λ e. omega arith) (other-check (not (spent l)) 23 0 (λ e. omega arith) never)
+other-sent l = other-check (not (unfit l)) 17 _ refl (other-check (not (spent l)) 23 0 refl never)
 
 other-answered : (l : Ledger) (xid grant : ℕ) → Other (replyNumber l xid grant)
 unfolding replyNumber
-other-answered l xid grant = other-check (not (unfit l)) 17 _ (λ e. omega arith) (other-check (not (eqb grant 0)) 25 _ (λ e. omega arith) (other-check (isIn xid (inFlight l)) 24 0 (λ e. omega arith) never))
+other-answered l xid grant = other-check (not (unfit l)) 17 _ refl (other-check (not (eqb grant 0)) 25 _ refl (other-check (isIn xid (inFlight l)) 24 0 refl never))
 
-pub never-eight : NeverGiven 8
-unfolding writeAnswer writeSetupAnswer errorReplyAnswer returnedAnswer openAnswer sendAnswer
-never-eight = record {
-  in-reading = λ frame. other-answer (readFrame frame) (other-frame frame) .0;
-  in-reading-words = λ frame. other-answer (readFrame frame) (other-frame frame) .1;
-  in-writing = other-writing;
-  in-writing-words = other-words;
-  in-starting = λ frame room. other-start (readFrame frame) room (other-frame frame);
-  in-taking = other-piece;
-  in-asking = other-asking;
-  in-reading-setup = other-setup-read;
-  in-writing-setup = other-setup;
-  in-writing-setup-words = other-setup-words;
-  in-agreeing = other-agreement;
-  in-agreeing-words = other-agreement-words;
-  in-granting = other-grant;
-  in-replying = other-reply-number;
-  in-returning = other-returned;
-  in-returning-words = other-returned-words;
-  in-opening-ledger = λ last. never;
-  in-sending-by-ledger = other-sent;
-  in-replying-to-ledger = other-answered;
-}
+-- No call gives a number that is reserved.
+module _ (n : ℕ) (kept : isReserved n ≡ true) where
+  apart : {m : ℕ} → Other m → m ≡ n → ⊥
+  apart other e = let z : _≡_ {A = ℕ} 0 1 = cc in omega arith
+
+  pub never-given : NeverGiven n
+  unfolding writeAnswer writeSetupAnswer errorReplyAnswer returnedAnswer openAnswer sendAnswer
+  never-given = record {
+    in-reading = λ frame. apart (other-answer (readFrame frame) (other-frame frame) .0);
+    in-reading-words = λ frame. apart (other-answer (readFrame frame) (other-frame frame) .1);
+    in-writing = λ h room. apart (other-writing h room);
+    in-writing-words = λ h room. apart (other-words h room);
+    in-starting = λ frame room. apart (other-start (readFrame frame) room (other-frame frame));
+    in-taking = λ s room size. apart (other-piece s room size);
+    in-asking = λ s room. apart (other-asking s room);
+    in-reading-setup = λ bytes. apart (other-setup-read bytes);
+    in-writing-setup = λ x room. apart (other-setup x room);
+    in-writing-setup-words = λ w room. apart (other-setup-words w room);
+    in-agreeing = λ client server. apart (other-agreement client server);
+    in-agreeing-words = λ client server. apart (other-agreement-words client server);
+    in-granting = λ asked limit. apart (other-grant asked limit);
+    in-replying = λ frame number limit room. apart (other-reply-number frame number limit room);
+    in-returning = λ sent reply. apart (other-returned sent reply);
+    in-returning-words = λ sent reply. apart (other-returned-words sent reply);
+    in-opening-ledger = λ last. apart never;
+    in-sending-by-ledger = λ l. apart (other-sent l);
+    in-replying-to-ledger = λ l xid grant. apart (other-answered l xid grant);
+  }
+
+-- Nor did the writer give 21 while it checked it.
+pub former-never : (h : Option Header) (room : ℕ) → formerAnswer h room .number ≡ 21 → ⊥
+unfolding writeAnswer
+former-never none room e = omega arith
+former-never (some h) room e = never-given 21 refl .in-writing h room (same-number h room ∙ e)

@@ -218,7 +218,7 @@ examples =
     ∷ header-takes full 960
     ∷ []
 
--- The numbers of the table that C1 to C13 do not show, each given once (21 cannot be given, and 8 is not since order 3).
+-- The numbers of the table that C1 to C13 do not show, each given once (8 and 21 are reserved and never given).
 abbrev pub numbers : List Example
 numbers =
     frame-reads (words (0x2a ∷ 1 ∷ 0x20 ∷ 2 ∷ [])) 3 []
@@ -739,4 +739,38 @@ passedCases =
     ∷ ledger-sends (ledgerOfCalls (6 ∷ 7 ∷ 6 ∷ []) 4 5) 17 0 0 (ledgerOfCalls (6 ∷ 7 ∷ 6 ∷ []) 4 5)
     ∷ ledger-sends (ledgerOfCalls (6 ∷ 7 ∷ []) 0 5) 17 0 0 (ledgerOfCalls (6 ∷ 7 ∷ []) 0 5)
     ∷ ledger-sends (ledgerWith (from 6 32) 33 40 5) 17 0 0 (ledgerWith (from 6 32) 33 40 5)
+    ∷ []
+
+-- Four write chunks that share the 16 segments.
+abbrev pub fourEach : List ℕ
+fourEach = 4 ∷ 4 ∷ 4 ∷ 4 ∷ []
+
+-- What order 7 says: the longest headers, and rooms about their length; one less in each count; one more, which is refused before a length could be; then 12 and 9 before the room; the longest ERROR header; 21 as an argument of the error reply, with room and without, and the numbers about it.
+abbrev pub longestCases : List Example
+longestCases =
+    header-takes full 960
+    ∷ header-gives full 959 16
+    ∷ header-gives full 0 16
+    ∷ header-takes (counting Nomsg 16 4 (16 ∷ 0 ∷ 0 ∷ 0 ∷ []) true 16) 960
+    ∷ header-takes (counting Msg 15 4 fourEach true 16) 936
+    ∷ header-takes (counting Msg 16 3 (4 ∷ 4 ∷ 8 ∷ 0 ∷ []) true 16) 952
+    ∷ header-takes (counting Msg 16 4 (4 ∷ 4 ∷ 4 ∷ 3 ∷ []) true 16) 944
+    ∷ header-takes (counting Msg 16 4 fourEach true 15) 944
+    ∷ header-takes (counting Msg 16 4 fourEach false 0) 700
+    ∷ header-gives (counting Msg 17 4 fourEach true 16) 2000 7
+    ∷ header-gives (counting Msg 16 5 fourEach true 16) 2000 7
+    ∷ header-gives (counting Msg 16 4 (4 ∷ 4 ∷ 4 ∷ 5 ∷ []) true 16) 2000 7
+    ∷ header-gives (counting Msg 16 4 fourEach true 17) 2000 7
+    ∷ header-gives (counting Msg 16 4 fourEach false 16) 2000 7
+    ∷ header-gives (counting (Error error.Chunk) 16 4 fourEach true 16) 2000 12
+    ∷ header-gives (reading Msg (replicate 15 4 ++ 6 ∷ [])) 0 9
+    ∷ header-takes (reading (Error (error.Version 5 6)) []) 28
+    ∷ header-gives (reading (Error (error.Version 5 6)) []) 27 16
+    ∷ replied c2 21 1 []
+    ∷ replied c3 21 32 []
+    ∷ replied (take 15 c2) 21 32 []
+    ∷ replied (words (0x2a ∷ 1 ∷ 0x20 ∷ 4 ∷ [])) 21 32 []
+    ∷ reply-gives c2 21 32 28 0
+    ∷ reply-gives c2 21 0 28 20
+    ∷ reply-gives c2 22 32 28 20
     ∷ []

@@ -1,4 +1,4 @@
--- "8 is never given again and stays reserved." (document 02, order 3)
+-- Of 8: "8 is never given again and stays reserved." Of 21: "the number stays reserved and is never given." (document 02, orders 3 and 7)
 use Prim.Native.Nat.{ℕ}
 use mathlib.Core.Path.{_≡_}
 use mathlib.Core.List.{List}

@@ -9,7 +9,7 @@ use lib.Dec.{eqb}
 use borrow.Author.Tests.{eq-eqb, ne-eqb}
 use Rattle.wire.specs.declared.ReadSegment.{ReadSegment}
 use Rattle.answers.specs.Answers.{check}
-use Rattle.answers.proofs.Checks.{check-passed}
+use Rattle.answers.proofs.Checks.{check-other, check-passed}
 use Rattle.chunk_lists.specs.Lists.{isAligned, allAligned}
 use Rattle.chunk_lists.proofs.Positions.{aligned-on}
 use Rattle.writer.specs.Write.{entriesNumber}
@@ -33,10 +33,14 @@ entries-fault l h next = rw (entries-next l next, ne-eqb _ _ h)
 pub entries-fine : (l : List ReadSegment) → entriesNumber l 0 ≡ 0 → (next : ℕ) → entriesNumber l next ≡ next
 entries-fine l h next = rw (entries-next l next, eq-eqb _ _ h)
 
-pub entries-zero : (l : List ReadSegment) (next : ℕ) → entriesNumber l next ≡ 0 → next ≡ 0
+-- A number other than 9 comes from behind the entries.
+pub entries-other : (l : List ReadSegment) (next given : ℕ) → (9 ≡ given → ⊥) → entriesNumber l next ≡ given → next ≡ given
 unfolding entriesNumber
-entries-zero [] next h = h
-entries-zero (x ∷ xs) next h = entries-zero xs next (check-passed (isAligned (x .position)) 9 _ (omega arith) h .1)
+entries-other [] next given h e = e
+entries-other (x ∷ xs) next given h e = entries-other xs next given h (check-other (isAligned (x .position)) 9 _ given h e .1)
+
+pub entries-zero : (l : List ReadSegment) (next : ℕ) → entriesNumber l next ≡ 0 → next ≡ 0
+entries-zero l next h = entries-other l next 0 (λ e. omega arith) h
 
 -- Entries that pass are those whose positions are multiples of 4.
 pub entries-aligned : (l : List ReadSegment) → entriesNumber l 0 ≡ 0 → allAligned l ≡ true

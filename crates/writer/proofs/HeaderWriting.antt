@@ -87,7 +87,7 @@ accepted h room e =
     let n = length (headerBytes (contentOf h)) in
     let a = check-passed (bareIfError (h .kind) (h .reads .count) (h .writes .chunks) (h .reply .present)) 12 _ (omega arith) e .1 in
     let b = check-passed (withinLimits (h .reads .count) (h .writes .chunks) (h .writes .counts) (h .reply .present) (h .reply .count)) 7 _ (omega arith) a in
-    let d = check-passed (leb n 1024) 21 _ (omega arith) (entries-zero (contentOf h .reads) _ (b .1)) .1 in
+    let d = entries-zero (contentOf h .reads) _ (b .1) in
     (b .0, leb-true n room (check-passed (leb n room) 16 0 (omega arith) d .0))
 
 -- A refused writing has written 0 bytes.

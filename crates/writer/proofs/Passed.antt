@@ -2,34 +2,32 @@
 -- Assumes nothing.
 use mathlib.Core.Path.{_≡_, refl, sym, subst}
 use mathlib.Core.Bool.{Bool, true, false, cond}
-use mathlib.Core.List.{List, [], _∷_, _++_, append-assoc, append-nil, map}
+use mathlib.Core.List.{List}
 use mathlib.Core.Option.{Option, none, some}
-use Prim.Native.Nat.{ℕ, _+_, _*_, _≤_}
+use Prim.Native.Nat.{ℕ, _≤_}
 use native.Mathlib.Omega.{arith}
 use borrow.Author.Tests.{le-leb, leb-true, eqb-true, not-true}
 use lib.ListN.{length, take}
 use lib.Seq.{length-take-le}
 use lib.Dec.{leb, eqb}
-use Rattle.wire.specs.Wire.{joined, wordBytes}
 use Rattle.header.specs.Content.{Content, replyChunkOf, headerOf, runs, replyOf, contentOf}
-use Rattle.header.specs.Bytes.{countedBytes, chunkBytes, readListBytes, writeListBytes, replyBytes, errorBytes, restBytes, fixedBytes, headerBytes}
-use Rattle.writer.specs.Write.{bareIfError, entriesNumber, writeNumber}
+use Rattle.header.specs.Bytes.{headerBytes}
+use Rattle.writer.specs.Write.{bareIfError, entriesNumber, writeNumber, writeAnswer, writeWordsAnswer}
 use Rattle.header.specs.Limits.{total, withinLimits, keepsLimits}
 use Rattle.header.proofs.Limits.{few-counts}
+use Rattle.header.proofs.Longest.{longest}
 use Rattle.wire.specs.Fits.{All, SegmentFits, ReadSegmentFits}
 use Rattle.header.specs.Fits.{Representable}
 use Rattle.header.specs.declared.Kind.{Kind}
 use Rattle.header.specs.declared.Kind.the-variants.{Msg, Nomsg, Error}
-use Rattle.header.specs.declared.ErrorKind.the-variants.{Version, Chunk}
 use Rattle.wire.specs.declared.Segment.{Segment}
 use Rattle.wire.specs.declared.ReadSegment.{ReadSegment}
 use Rattle.header.specs.declared.Header.{Header}
 use Rattle.header.proofs.Allowed.{ReplyAllowed, Allowed, BareIfError}
-use Rattle.wire.proofs.WordBytes.{length-word, length-read-segment}
-use Rattle.reader.proofs.ReadBack.{read-entry-first, chunk-first, length-segments}
 use Rattle.header.proofs.Contents.{all-take, all-runs, lengths-runs, contentOf-headerOf, counts-held, Within, chunks-same}
-use Rattle.answers.proofs.Checks.{both-hold, check-passed}
-use Rattle.writer.proofs.Entries.{entries-zero, entries-aligned, aligned-entries}
+use Rattle.answers.specs.Answers.{roomNumber}
+use Rattle.answers.proofs.Checks.{both-hold, check-other, check-passed}
+use Rattle.writer.proofs.Entries.{entries-other, entries-zero, entries-aligned, aligned-entries}
 
 -- What every check asks of a header that is written into `room` bytes.
 pub record Passed (h : Header) (room : ℕ) : Type 0 where
@@ -39,7 +37,6 @@ pub record Passed (h : Header) (room : ℕ) : Type 0 where
   pub sum : total (take (h .writes .chunks) (h .writes .counts)) ≤ 16
   pub reply : h .reply .count ≤ cond (h .reply .present) 16 0
   pub entries : entriesNumber (contentOf h .reads) 0 ≡ 0
-  pub short : length (headerBytes (contentOf h)) ≤ 1024
   pub fits : length (headerBytes (contentOf h)) ≤ room
 
 -- The number 0 says that every check passed.
@@ -50,8 +47,7 @@ write-passed h room e =
     let k = check-passed (keepsLimits h) 7 _ (omega arith) (a .1) in
     let few = few-counts _ _ _ _ _ (k .0) in
     let next = entries-zero (contentOf h .reads) _ (k .1) in
-    let g = check-passed (leb (length (headerBytes (contentOf h))) 1024) 21 _ (omega arith) next in
-    let i = check-passed (leb (length (headerBytes (contentOf h))) room) 16 _ (omega arith) (g .1) in
+    let i = check-passed (leb (length (headerBytes (contentOf h))) room) 16 _ (omega arith) next in
     record {
       bare = a .0;
       reads = few .reads;
@@ -59,7 +55,6 @@ write-passed h room e =
       sum = few .segments;
       reply = few .there;
       entries = subst (λ (n : ℕ). entriesNumber (contentOf h .reads) n ≡ 0) next (k .1);
-      short = leb-true _ _ (g .0);
       fits = leb-true _ _ (i .0);
     }
 
@@ -67,49 +62,7 @@ write-passed h room e =
 pub passed-write : (h : Header) (room : ℕ) → Passed h room → writeNumber h room ≡ 0
 unfolding writeNumber withinLimits
 passed-write h room p =
-    simp (p .bare, le-leb _ _ (p .reads), le-leb _ _ (p .chunks), le-leb _ _ (p .sum), le-leb _ _ (p .reply), le-leb _ _ (p .short), le-leb _ _ (p .fits)) (p .entries)
-
--- How long a read list is.
-length-read-list : (l : List ReadSegment) (r : List ℕ) → length (readListBytes l ++ r) ≡ length l * 24 + 4 + length r
-unfolding readListBytes joined
-length-read-list [] r = simp length-word (omega arith)
-length-read-list (x ∷ l) r = simp (read-entry-first, length-word, length-read-segment) (omega (arith, length-read-list l r))
-
--- How long a counted run of segments is.
-length-counted : (c : List Segment) (r : List ℕ) → length (countedBytes c ++ r) ≡ 4 + length c * 16 + length r
-unfolding countedBytes
-length-counted c r = simp (append-assoc, length-word) (omega (arith, length-segments c r))
-
--- How long a write list is.
-length-write-list : (cs : List (List Segment)) (r : List ℕ) → length (writeListBytes cs ++ r) ≡ length cs * 8 + total (map length cs) * 16 + 4 + length r
-unfolding writeListBytes joined total
-length-write-list [] r = simp length-word (omega arith)
-length-write-list (c ∷ cs) r = simp (chunk-first, length-word, length-counted) (omega (arith, length-write-list cs r))
-
--- How long a reply chunk is at most.
-length-reply : (o : Option (List Segment)) → ReplyAllowed o → length (replyBytes o) ≤ 264
-unfolding replyBytes chunkBytes wordBytes countedBytes
-length-reply none f = omega arith
-length-reply (some c) f = omega (arith, simp append-nil at (length-segments c []), f .0)
-
--- What stands behind the fixed words is no longer than the three parts, or 12 bytes.
-length-rest : (kind : Kind) (parts : List ℕ) (n : ℕ) → length parts ≤ n → 12 ≤ n → length (restBytes kind parts) ≤ n
-unfolding errorBytes wordBytes
-length-rest Msg parts n h k = h
-length-rest Nomsg parts n h k = h
-length-rest (Error (Version low high)) parts n h k = k
-length-rest (Error Chunk) parts n h k = omega arith
-
--- A header within the limits is at most 960 bytes long.
-pub header-length : (c : Content) → Allowed c → length (headerBytes c) ≤ 960
-unfolding headerBytes fixedBytes wordBytes
-header-length c a =
-    let reads = length-read-list (c .reads) (writeListBytes (c .writes) ++ replyBytes (c .reply)) in
-    let writes = length-write-list (c .writes) (replyBytes (c .reply)) in
-    let reply = length-reply (c .reply) (a .reply) in
-    let parts : length (readListBytes (c .reads) ++ (writeListBytes (c .writes) ++ replyBytes (c .reply))) ≤ 944 = omega arith in
-    let rest = length-rest (c .kind) (readListBytes (c .reads) ++ (writeListBytes (c .writes) ++ replyBytes (c .reply))) 944 parts (omega arith) in
-    omega arith
+    simp (p .bare, le-leb _ _ (p .reads), le-leb _ _ (p .chunks), le-leb _ _ (p .sum), le-leb _ _ (p .reply), le-leb _ _ (p .fits)) (p .entries)
 
 -- A header that passed every check uses places that are there.
 pub passed-within : (h : Header) (room : ℕ) → Representable h → Passed h room → Within h
@@ -179,8 +132,6 @@ pub allowed-passed : (c : Content) (room : ℕ) → Allowed c → length (header
 unfolding headerOf
 allowed-passed c room a h =
     let same : contentOf (headerOf c) ≡ c = contentOf-headerOf c in
-    let long = header-length c a in
-    let most : length (headerBytes c) ≤ 1024 = omega arith in
     record {
       bare = error-bare (c .kind) c (a .bare);
       reads = a .reads-limit;
@@ -188,6 +139,19 @@ allowed-passed c room a h =
       sum = simp (counts-held (c .writes)) (a .writes-limit);
       reply = reply-limit (c .reply) (a .reply);
       entries = subst (λ (d : Content). entriesNumber (d .reads) 0 ≡ 0) (sym same) (aligned-entries (c .reads) (a .aligned));
-      short = subst (λ (d : Content). length (headerBytes d) ≤ 1024) (sym same) most;
       fits = subst (λ (d : Content). length (headerBytes d) ≤ room) (sym same) h;
     }
+
+-- A buffer of 960 bytes is never too short.
+pub room-suffices : (h : Option Header) (room : ℕ) → 960 ≤ room → writeWordsAnswer h room .number ≡ 16 → ⊥
+unfolding writeAnswer writeNumber
+room-suffices none room long e = omega arith
+room-suffices (some h) room long e =
+    let bytes = headerBytes (contentOf h) in
+    let bare = check-other (bareIfError (h .kind) (h .reads .count) (h .writes .chunks) (h .reply .present)) 12 _ 16 (λ z. omega arith) e in
+    let keeps = check-other (keepsLimits h) 7 _ 16 (λ z. omega arith) (bare .1) in
+    let most = longest h (keeps .0) in
+    let fits : leb (length bytes) room ≡ true = le-leb (length bytes) room (omega arith) in
+    let short : roomNumber bytes room ≡ 16 = entries-other (contentOf h .reads) _ 16 (λ z. omega arith) (keeps .1) in
+    let none-short = rw fits at short in
+    omega arith

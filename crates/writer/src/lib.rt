@@ -21,8 +21,6 @@ ghost use Rattle.header.specs.Limits.{total};
 ghost use Rattle.header.specs.Internal.Counts.{limitsKept};
 ghost use Rattle.writer.specs.Internal.Parts.{partsBytesIn};
 
-pub const MAX_HEADER_BYTES: usize = 1024;
-
 // "a marker word 1, an entry, .. a marker word 0 ends it"
 const ENTRY: u32 = 1;
 
@@ -143,9 +141,6 @@ fn write_number(words: &[u32], kind: Kind, present: bool, room: usize) -> u32
         return fault;
     }
     let length = header_length(kind, reads, chunks, segments, present, replies);
-    if MAX_HEADER_BYTES < length {
-        return answers::HEADER_LONG;
-    }
     if room < length {
         return answers::BUFFER_SHORT;
     }

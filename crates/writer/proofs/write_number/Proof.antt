@@ -40,11 +40,11 @@ known : (c : tie.Else2) → Passed (lent c) (entry c .args .present)
 known c = passed (lent c) (entry c .args .present) (entry c .pre) (within c)
 
 -- The number then, and the number behind the check of the read entries.
-then-entries : (c : tie.Else2) → let n = length (headerBytes (contentOf (held c))) in writeNumber (held c) (entry c .args .room) ≡ entriesNumber (take (getD (lent c) readCountAt 0) (readsIn (lent c))) (check (leb n 1024) 21 (check (leb n (entry c .args .room)) 16 0))
+then-entries : (c : tie.Else2) → let n = length (headerBytes (contentOf (held c))) in writeNumber (held c) (entry c .args .room) ≡ entriesNumber (take (getD (lent c) readCountAt 0) (readsIn (lent c))) (check (leb n (entry c .args .room)) 16 0)
 unfolding writeNumber contentOf
 then-entries c = simp (← (c .before .before .before .before .bare-if-error .ensures), not-false (c .before .before .before .before .bare-if-error .result) (c .before .before .before .if1 .left), within c)
 
-then-length : (c : tie.After-header-length) → let n = c .header-length .result in writeNumber (held (c .before .before .before)) (entry (c .before .before .before) .args .room) ≡ check (leb n 1024) 21 (check (leb n (entry (c .before .before .before) .args .room)) 16 0)
+then-length : (c : tie.After-header-length) → let n = c .header-length .result in writeNumber (held (c .before .before .before)) (entry (c .before .before .before) .args .room) ≡ check (leb n (entry (c .before .before .before) .args .room)) 16 0
 then-length c =
     let limits = c .before .before .before in
     let size = sized (lent limits) (entry limits .args .kind) (entry limits .args .present) (c .header-length .result) (known limits) (λ parts e. c .header-length .ensures parts (rw (limits .before .before .total-count .ensures) e)) in
@@ -82,14 +82,11 @@ returns-4 : tie.Need-returns-4
 returns-4 c = sym (then-length (c .before) ∙ simp (lt-leb _ _ (c .if4 .taken)))
 
 returns-5 : tie.Need-returns-5
-returns-5 c = sym (then-length (c .before .before) ∙ simp (le-leb _ _ (c .before .if4 .left), lt-leb _ _ (c .if5 .taken)))
-
-returns-6 : tie.Need-returns-6
-returns-6 c = sym (then-length (c .before .before) ∙ simp (le-leb _ _ (c .before .if4 .left), le-leb _ _ (c .if5 .left)))
+returns-5 c = sym (then-length (c .before) ∙ simp (le-leb _ _ (c .if4 .left)))
 
 pub write-number-spec : {M : Type 1} → statement M
 write-number-spec =
     tie.close
     (tie.spec (λ c. search needs) cast-reads (λ c. search needs) cast-chunks (λ c. search needs) cast-replies
     (λ c κs. search needs) returns (λ c κs. search needs) (λ c κs. search needs) returns-2 check-entries-requires
-    returns-3 header-length-requires returns-4 returns-5 returns-6)
+    returns-3 header-length-requires returns-4 returns-5)
