@@ -70,8 +70,8 @@ impl Header {
         })
     }
 
-    /// Writes the header to the front of a buffer; answers its length. An inline payload goes right behind it. Numbers 12,
-    /// 7, 9, 16.
+    /// Writes the header to the front of a buffer; answers its length. [`MAX_HEADER`] bytes suffice. An inline payload goes
+    /// right behind it. Numbers 12, 7, 9, 16.
     pub fn write(&self, out: &mut [u8]) -> Result<usize, Refusal> {
         stored(|length| unsafe { ffi::eos_write_header(&self.flat(), out.as_mut_ptr(), out.len(), length) })
     }
