@@ -22,7 +22,7 @@ use compare::convert::flatten;
 use compare::library::Library;
 use compare::plain::ledger::{reply_quadratic, send_quadratic};
 use compare::plain::Plain;
-use compare::reference::header::{encode, Kind};
+use compare::reference::header::{encode, Kind, MAX_HEADER};
 use compare::rng::Rng;
 use compare::words::Words;
 use eoswynnor::ffi::{Agreement, Header, Landed, Ledger, Setup, State};
@@ -218,7 +218,7 @@ fn repeat<T>(count: u64, mut call: impl FnMut() -> T) {
 /// Each maker is lent the same.
 fn calls_of<C: Calls>(maker: &C, call: &str, input: &mut Input, count: u64) {
     let Input { frame, flat, number, pair: [sent, reply], ledger, xid, .. } = input;
-    let (mut out, mut length, mut header) = ([0; 1024], 0, Header::ZERO);
+    let (mut out, mut length, mut header) = ([0; MAX_HEADER], 0, Header::ZERO);
     let (mut data, mut setup, mut present) = (C10, Setup::default(), 0);
     let (mut client, mut server) = (CLIENT, SERVER);
     let (mut agreement, mut credit, mut landed) = (Agreement::default(), 0, Landed::ZERO);

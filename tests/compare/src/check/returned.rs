@@ -67,7 +67,7 @@ impl<C: Calls> Checker<C> {
     /// A header as the other side reads it, with a payload behind if it may have one.
     fn carried(&mut self, header: &Header) -> Result<Place<Header>, String> {
         let payload = if header.kind == MSG { self.noise.below(9) } else { 0 };
-        let mut out = self.noise.noise(MAX_HEADER);
+        let mut out = self.noise.noise(MAX_HEADER + payload);
         let (mut length, mut back) = (Place::noise(&mut self.noise), Place::noise(&mut self.noise));
         let aside = &mut self.noise.aside();
         let written = self.calls.write_header(&mut Place::holding(*header, aside), &mut out, &mut length)?;

@@ -133,7 +133,7 @@ fn measure(flat: &Header) -> Result<usize, u32> {
     if reads.iter().any(|entry| entry.position % 4 != 0) {
         return Err(9);
     }
-    let need = match flat.kind {
+    Ok(match flat.kind {
         ERROR_VERSION => 28,
         ERROR_CHUNK => 20,
         _ => {
@@ -141,11 +141,7 @@ fn measure(flat: &Header) -> Result<usize, u32> {
             let reply = 4 * flat.reply_present as usize + 16 * flat.reply_count as usize;
             28 + 24 * reads.len() + writes + reply
         }
-    };
-    if need > 1024 {
-        return Err(21);
-    }
-    Ok(need)
+    })
 }
 
 struct Out<'a> {

@@ -6,7 +6,8 @@ pub const MAX_READS: usize = 16;
 pub const MAX_WRITE_CHUNKS: usize = 4;
 pub const MAX_WRITE_SEGMENTS: usize = 16;
 pub const MAX_REPLY_SEGMENTS: usize = 16;
-pub const MAX_HEADER: usize = 1024;
+/// The longest header that the limits allow: a buffer of as many bytes suffices for each.
+pub const MAX_HEADER: usize = 960;
 
 #[derive(Clone, Copy, Debug, Default, PartialEq, Eq)]
 pub struct Segment {
@@ -232,7 +233,7 @@ pub fn over_limit(header: &Header) -> bool {
         || (!header.reply.present && !header.reply.segments.is_empty())
 }
 
-/// The number a header to be written gets before its length is looked at.
+/// The number a header to be written gets before the buffer is looked at.
 fn refusal(header: &Header) -> Option<u32> {
     let any_entry = !header.reads.is_empty() || !header.writes.is_empty();
     if matches!(header.kind, Kind::Error(_)) && (any_entry || header.reply.present) {
@@ -250,14 +251,11 @@ fn refusal(header: &Header) -> Option<u32> {
 
 /// The length written, or the number of the refusal, which leaves `out` alone.
 pub fn write(header: &Header, out: &mut [u8]) -> Result<usize, u32> {
-    if let Some(number) = refusal(header) {
-        return Err(number);
+    // No length is checked, so 21 is never given: document 02, order 7.
+    match refusal(header) {
+        Some(number) => Err(number),
+        None => put_front(&encode(header), out),
     }
-    let bytes = encode(header);
-    if bytes.len() > MAX_HEADER {
-        return Err(21);
-    }
-    put_front(&bytes, out)
 }
 
 #[cfg(test)]
@@ -283,7 +281,7 @@ mod tests {
     fn lists_in_any_order() {
         let at = |position| ReadSegment { position, ..ReadSegment::default() };
         let with = |list: &[u32]| Header { reads: list.iter().map(|&p| at(p)).collect(), ..c2() };
-        let mut out = [7; 960];
+        let mut out = [7; MAX_HEADER];
         for list in [&[8, 4][..], &[8, 4, 8], &[4, 4], &[u32::MAX - 3, 0], &[60; 16]] {
             let length = write(&with(list), &mut out).unwrap();
             assert_eq!((length, read(&out[..length])), (28 + 24 * list.len(), Ok((with(list), &[][..]))));
@@ -300,7 +298,7 @@ mod tests {
 
     #[test]
     fn refusals_of_writing() {
-        let (mut header, mut out) = (full(), [7; 960]);
+        let (mut header, mut out) = (full(), [7; MAX_HEADER]);
         assert_eq!(write(&header, &mut out[..959]), Err(16));
         header.reads[2].position = 6;
         header.reads[3].position = 0;
@@ -309,6 +307,115 @@ mod tests {
         assert_eq!(write(&header, &mut out), Err(7));
         header.kind = Kind::Error(Fault::Chunk);
         assert_eq!(write(&header, &mut out), Err(12));
+        assert_eq!(out, [7; MAX_HEADER]);
+    }
+
+    /// A header of so many entries, all of them zero.
+    fn counted(kind: Kind, reads: usize, counts: &[usize], reply: Option<usize>) -> Header {
+        Header {
+            kind,
+            reads: vec![ReadSegment::default(); reads],
+            writes: counts.iter().map(|&count| vec![Segment::default(); count]).collect(),
+            reply: Reply { present: reply.is_some(), segments: vec![Segment::default(); reply.unwrap_or(0)] },
+            ..c2()
+        }
+    }
+
+    /// The length that a header of the limits has, into the least room and into one that suffices for each.
+    fn length(header: &Header) -> usize {
+        let length = encode(header).len();
+        let mut out = [7; 960];
+        assert_eq!(write(header, &mut out[..length - 1]), Err(16));
         assert_eq!(out, [7; 960]);
+        assert_eq!(write(header, &mut out[..length]), Ok(length));
+        assert_eq!(write(header, &mut out), Ok(length));
+        assert_eq!(out[length..], vec![7; 960 - length]);
+        length
+    }
+
+    /// Every number of entries within the limits, but that of a list of write chunks only its length and
+    /// its total are told apart: 960 bytes are reached by all limits full, and next to it come 952.
+    #[test]
+    fn no_header_passes_960_bytes() {
+        let replies = || [None].into_iter().chain((0..=16).map(Some));
+        let totals = |chunks: usize| 0..=if chunks == 0 { 0 } else { 16 };
+        let mut lengths = Vec::new();
+        for (kind, reads) in
+            [Kind::Msg, Kind::Nomsg].into_iter().flat_map(|kind| (0..=16).map(move |n| (kind, n)))
+        {
+            for (chunks, total) in (0..=4).flat_map(|chunks| totals(chunks).map(move |total| (chunks, total)))
+            {
+                let mut counts = vec![0; chunks];
+                if let Some(last) = counts.last_mut() {
+                    *last = total;
+                }
+                for reply in replies() {
+                    let length = length(&counted(kind, reads, &counts, reply));
+                    // Four fixed words, the ends of two lists and the reply's marker, and each entry's own.
+                    let lists = 24 * reads + 8 * chunks + 16 * total;
+                    assert_eq!(length, 28 + lists + reply.map_or(0, |count| 4 + 16 * count));
+                    lengths.push((length, reads, chunks, total, reply));
+                }
+            }
+        }
+        assert_eq!(lengths.len(), 2 * 17 * (1 + 4 * 17) * 18);
+        lengths.sort_unstable();
+        // Once as MSG and once as NOMSG.
+        let full = (960, 16, 4, 16, Some(16));
+        assert_eq!(lengths[lengths.len() - 2..], [full; 2]);
+        assert_eq!(lengths[lengths.len() - 4..lengths.len() - 2], [(952, 16, 3, 16, Some(16)); 2]);
+        for (fault, bytes) in [(Fault::Version { low: 1, high: 1 }, 28), (Fault::Chunk, 20)] {
+            assert_eq!(length(&counted(Kind::Error(fault), 0, &[], None)), bytes);
+        }
+    }
+
+    /// Every spread of up to 16 segments over up to four chunks, all else full: 960 bytes where there are
+    /// four chunks and 16 segments, which four chunks can hold in 969 ways.
+    #[test]
+    fn spreads_of_960_bytes() {
+        let mut spreads = vec![vec![]];
+        for chunks in 0..4 {
+            let longer: Vec<Vec<usize>> =
+                spreads.iter().filter(|counts| counts.len() == chunks).cloned().collect();
+            for counts in longer {
+                let left = 16 - counts.iter().sum::<usize>();
+                spreads.extend((0..=left).map(|count| [&counts[..], &[count]].concat()));
+            }
+        }
+        assert_eq!(spreads.len(), 1 + 17 + 153 + 969 + 4845);
+        for kind in [Kind::Msg, Kind::Nomsg] {
+            let full = |counts: &&Vec<usize>| length(&counted(kind, 16, counts, Some(16))) == 960;
+            let full: Vec<_> = spreads.iter().filter(full).collect();
+            assert!(full.iter().all(|counts| counts.len() == 4 && counts.iter().sum::<usize>() == 16));
+            assert_eq!(full.len(), 969);
+        }
+    }
+
+    /// A count over its limit gets 7 however long the header would be, from all limits full on and alone.
+    #[test]
+    fn over_a_limit_at_any_length() {
+        let (mut long, mut out) = (0, [7; 2048]);
+        let mut refused = |header: &Header| {
+            long += usize::from(encode(header).len() > 1024);
+            [0, 960, 2048].iter().for_each(|&room| assert_eq!(write(header, &mut out[..room]), Err(7)));
+        };
+        for kind in [Kind::Msg, Kind::Nomsg] {
+            for count in 17..40 {
+                refused(&counted(kind, count, &[4; 4], Some(16)));
+                refused(&counted(kind, count, &[], None));
+                refused(&counted(kind, 16, &[4, 4, 4, count - 12], Some(16)));
+                refused(&counted(kind, 0, &[count], None));
+                refused(&counted(kind, 16, &[4; 4], Some(count)));
+                refused(&counted(kind, 0, &[], Some(count)));
+            }
+            for count in 5..40 {
+                refused(&counted(kind, 16, &[vec![4; 4], vec![0; count - 4]].concat(), Some(16)));
+                refused(&counted(kind, 0, &vec![0; count], None));
+            }
+        }
+        // Past 1,024 from the 19th read segment, the 21st of a chunk, written or of the reply, and the 13th
+        // chunk on.
+        assert_eq!(long, 2 * (21 + 19 + 19 + 27));
+        assert_eq!(out, [7; 2048]);
     }
 }

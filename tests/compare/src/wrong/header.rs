@@ -5,7 +5,7 @@ use crate::calls::HeaderCalls;
 use crate::cases::header::{c2, full, run};
 use crate::convert::flatten;
 use crate::plain::Plain;
-use crate::reference::header::encode;
+use crate::reference::header::{encode, MAX_HEADER};
 use crate::rng::Rng;
 use crate::words::Words;
 use eoswynnor::ffi;
@@ -132,7 +132,9 @@ impl HeaderCalls for Wrong {
             (Header(BadArgumentAsOverLimit), 20) => return 7,
             // A refusal with length 0; with the length that it would need.
             (Header(RefusalLengthZero), 1..) => *length = 0,
-            (Header(RefusalLengthNeeded), 16) => drop(Plain.write_header(header, &mut [0; 1024], length)),
+            (Header(RefusalLengthNeeded), 16) => {
+                Plain.write_header(header, &mut [0; MAX_HEADER], length);
+            }
             (Header(WriteStoresBehind), 0) => store_behind(length, 0),
             (Header(WriteClearsReserved), 0) => header.reserved = 0,
             (Header(RefusedWriteMendsKind), 20) => header.kind = header.kind.min(3),
