@@ -105,6 +105,15 @@ fn cut<T: Default>(mut places: impl Iterator<Item = T>, count: u32, limit: usize
     (0..(count as usize).min(limit + 1)).map(|_| places.next().unwrap_or_default()).collect()
 }
 
+/// The length that the counts of a flat header ask for, whatever the limits and its kind.
+pub fn asked_length(flat: &ffi::Header) -> u64 {
+    let chunks = flat.write_counts.iter().take(flat.write_chunks as usize);
+    let segments: u64 = chunks.chain([&flat.reply_count]).map(|&count| u64::from(count)).sum();
+    let [reads, chunks, reply] = [flat.read_count, flat.write_chunks, flat.reply_present].map(u64::from);
+    let fixed = if flat.kind == ERROR_CHUNK { 20 } else { 28 };
+    fixed + 24 * reads + 8 * chunks + 4 * reply + 16 * segments
+}
+
 pub fn flatten_setup(setup: &Setup) -> ffi::Setup {
     let remote_invalidation = u32::from(setup.remote_invalidation);
     ffi::Setup { remote_invalidation, send: setup.send, receive: setup.receive }

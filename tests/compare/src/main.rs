@@ -4,7 +4,7 @@
 //! random family), --seed S, --vectors FILE (else what EOS_VECTORS names).
 //! One line for each family, then the numbers, goes, counts of xids passed over and forms seen and the
 //! total; the first difference is printed with its input and ends the run with status 1, as does one
-//! of them never seen, or a number seen that its call never gives (8 is given by none).
+//! of them never seen, or a number seen that its call never gives (8 and 21 are given by none).
 
 #[cfg(not(library))]
 compile_error!("set EOS_LIB_DIR to the folder that holds libeoswynnor.a");

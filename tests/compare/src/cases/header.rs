@@ -3,7 +3,7 @@
 use super::{edges, put, words};
 use crate::calls::Calls;
 use crate::check::{Checker, Outcome};
-use crate::convert::{flatten, unflatten};
+use crate::convert::{asked_length, flatten, unflatten};
 use crate::reference::header::{encode, Fault, Header, Kind, ReadSegment, Reply, Segment};
 use crate::rng::Rng;
 use eoswynnor::ffi;
@@ -125,6 +125,12 @@ impl Rng {
             (flat.low, flat.high) = (self.word(), self.word());
         }
         flat
+    }
+
+    /// The same of a header drawn before.
+    fn noisy_of(&mut self, kind: Kind, reads: usize, counts: &[usize], reply: Option<usize>) -> ffi::Header {
+        let header = self.header(kind, reads, counts, reply);
+        self.noisy(&header)
     }
 }
 
@@ -465,6 +471,222 @@ fn faulty_headers<C: Calls>(check: &mut Checker<C>, rng: &mut Rng) -> Outcome {
     Ok(())
 }
 
+/// Around 960, which no header passes, around 1,024, where 01's number 21 began, and more.
+const LONG_ROOMS: [usize; 8] = [959, 960, 961, 1023, 1024, 1025, 2048, 4096];
+
+/// None, a byte, what the counts ask for and one less or more, and the long ones.
+fn long_rooms<C: Calls>(check: &mut Checker<C>, flat: &ffi::Header) -> Outcome {
+    let asked = asked_length(flat).min(5000) as usize;
+    let near = [0, 1, asked - 1, asked, asked + 1];
+    near.into_iter().chain(LONG_ROOMS).try_for_each(|room| check.write(flat, room))
+}
+
+/// Write chunks of no, all and nearly all segments: few chunks or many, even and uneven.
+const SPREADS: [&[usize]; 12] = [
+    &[],
+    &[0],
+    &[15],
+    &[16],
+    &[8, 8],
+    &[5, 5, 6],
+    &[0; 4],
+    &[16, 0, 0, 0],
+    &[0, 0, 0, 16],
+    &[1, 2, 3, 10],
+    &[4, 4, 4, 3],
+    &[4; 4],
+];
+
+/// Those with all 16 segments in four chunks.
+fn full_spreads() -> impl Iterator<Item = &'static [usize]> {
+    SPREADS.into_iter().filter(|counts| (counts.len(), counts.iter().sum()) == (4, 16))
+}
+
+/// Counts of reads, write chunks and the reply chunk, and the length by hand: 28 and 24 for each read, 8 for
+/// each chunk, 16 for each segment of one, 4 for a reply chunk and 16 for each segment of it.
+const LENGTHS: [(usize, &[usize], Option<usize>, usize); 16] = [
+    (16, &[4; 4], Some(16), 960), // C13
+    (16, &[16, 0, 0, 0], Some(16), 960),
+    (16, &[0, 0, 0, 16], Some(16), 960),
+    (16, &[5, 5, 6], Some(16), 952),
+    (16, &[4, 4, 4, 3], Some(16), 944),
+    (16, &[4; 4], Some(15), 944),
+    (16, &[8, 8], Some(16), 944),
+    (15, &[4; 4], Some(16), 936),
+    (16, &[4; 4], Some(0), 704),
+    (16, &[4; 4], None, 700),
+    (16, &[], Some(16), 672),
+    (0, &[4; 4], Some(16), 576),
+    (16, &[], None, 412),
+    (0, &[0], None, 36),
+    (0, &[], Some(0), 32),
+    (0, &[], None, 28), // C2
+];
+
+/// One more than its limit in one count.
+const ONE_OVER: [fn(&mut ffi::Header); 8] = [
+    |h| h.read_count = 17,
+    |h| h.write_chunks = 5,
+    |h| h.write_counts[0] += 1,
+    |h| h.write_counts[1] += 1,
+    |h| h.write_counts[2] += 1,
+    |h| h.write_counts[3] += 1,
+    |h| h.reply_count = 17,
+    // Of an absent chunk.
+    |h| h.reply_present = 0,
+];
+
+/// Lengths and refusals by hand, of headers at their limits: 12, 7, 9 and 16 in this order, and no other.
+pub fn by_hand<C: Calls>(check: &mut Checker<C>) -> Outcome {
+    let rng = &mut Rng(8);
+    let wide = [0, 1, 28, 959, 960, 961, 1024, 65_536];
+    let same = |check: &mut Checker<C>, flat: &ffi::Header, number: u32| {
+        wide.iter().try_for_each(|&room| check.worked_write(flat, room, Err(number)))
+    };
+    check.family("lengths by hand");
+    for (kind, (reads, counts, reply, length)) in
+        [Kind::Msg, Kind::Nomsg].into_iter().flat_map(|kind| LENGTHS.map(|case| (kind, case)))
+    {
+        let header = rng.header(kind, reads, counts, reply);
+        for flat in [flatten(&header), rng.noisy(&header)] {
+            for room in wide.into_iter().chain([length - 1, length, length + 1]) {
+                let want = if room < length { Err(16) } else { Ok(length) };
+                check.worked_write(&flat, room, want)?;
+            }
+            for at in 0..reads {
+                let mut flat = flat;
+                flat.reads[at].position |= 1 + at as u32 % 3;
+                same(check, &flat, 9)?;
+            }
+        }
+    }
+    for (fault, length) in [(Fault::Version { low: 1, high: 1 }, 28), (Fault::Chunk, 20)] {
+        let flat = rng.noisy_of(Kind::Error(fault), 0, &[], None);
+        for room in wide.into_iter().chain([length - 1, length, length + 1]) {
+            check.worked_write(&flat, room, if room < length { Err(16) } else { Ok(length) })?;
+        }
+    }
+    check.family("limits by hand");
+    for counts in full_spreads() {
+        for (kind, over) in [Kind::Msg, Kind::Nomsg].into_iter().flat_map(|kind| ONE_OVER.map(|o| (kind, o)))
+        {
+            let mut flat = rng.noisy_of(kind, 16, counts, Some(16));
+            over(&mut flat);
+            same(check, &flat, 7)?;
+            flat.reads[15].position |= 2;
+            same(check, &flat, 7)?;
+        }
+        for kind in [ffi::ERROR_VERSION, ffi::ERROR_CHUNK] {
+            let mut flat = rng.noisy_of(Kind::Msg, 16, counts, Some(16));
+            flat.kind = kind;
+            same(check, &flat, 12)?;
+            for over in ONE_OVER {
+                let mut flat = flat;
+                over(&mut flat);
+                flat.reads[0].position |= 1;
+                same(check, &flat, 12)?;
+            }
+        }
+    }
+    Ok(())
+}
+
+/// Headers at their limits and around them, in rooms of all sorts.
+pub fn longest<C: Calls>(check: &mut Checker<C>, rng: &mut Rng) -> Outcome {
+    check.family("write at the limits");
+    for (kind, reads) in
+        [Kind::Msg, Kind::Nomsg].into_iter().flat_map(|kind| [0, 1, 15, 16].map(|n| (kind, n)))
+    {
+        for (counts, reply) in SPREADS
+            .iter()
+            .flat_map(|counts| [None, Some(0), Some(1), Some(15), Some(16)].map(|n| (counts, n)))
+        {
+            long_rooms(check, &rng.noisy_of(kind, reads, counts, reply))?;
+        }
+    }
+    // The 969 spreads of 16 segments over four chunks, all else full.
+    for digits in 0..17usize.pow(3) {
+        let [one, two, three] = [digits % 17, digits / 17 % 17, digits / 289];
+        if let Some(four) = 16usize.checked_sub(one + two + three) {
+            let kind = [Kind::Msg, Kind::Nomsg][digits % 2];
+            let flat = rng.noisy_of(kind, 16, &[one, two, three, four], Some(16));
+            [959, 960, 961].iter().try_for_each(|&room| check.write(&flat, room))?;
+        }
+    }
+    let fulls: Vec<Header> = [Kind::Msg, Kind::Nomsg]
+        .into_iter()
+        .flat_map(|kind| full_spreads().map(move |counts| (kind, counts)))
+        .map(|(kind, counts)| rng.header(kind, 16, counts, Some(16)))
+        .collect();
+    let empties = [Kind::Msg, Kind::Nomsg].map(|kind| rng.header(kind, 0, &[0; 4], Some(0)));
+    check.family("write over the limits");
+    for base in fulls.iter().chain(&empties) {
+        let flat = rng.noisy(base);
+        // One count, by so much that 960 and 1,024 bytes would be passed, or none; then two counts.
+        for (field, over) in (0..7).flat_map(|field| (1..=30).map(move |over| (field, over))) {
+            let mut flat = flat;
+            let count = counted(&mut flat, field);
+            *count = over + [16, 4, *count, *count, *count, *count, 16][field];
+            long_rooms(check, &flat)?;
+        }
+        for (field, edge) in (0..7).flat_map(|field| edges().into_iter().map(move |edge| (field, edge))) {
+            let mut flat = flat;
+            *counted(&mut flat, field) = edge;
+            [0, 960, 1024, 4096].iter().try_for_each(|&room| check.write(&flat, room))?;
+        }
+        for (one, two) in ONE_OVER.iter().flat_map(|one| ONE_OVER.iter().map(move |two| (one, two))) {
+            let mut flat = flat;
+            one(&mut flat);
+            two(&mut flat);
+            long_rooms(check, &flat)?;
+        }
+    }
+    check.family("write full ERRORs");
+    for (base, kind) in fulls
+        .iter()
+        .chain(&empties)
+        .flat_map(|base| [ffi::ERROR_VERSION, ffi::ERROR_CHUNK].map(|kind| (base, kind)))
+    {
+        let flat = ffi::Header { kind, ..rng.noisy(base) };
+        // All, each alone, and none of the three; then with one over its limit.
+        for kept in 0..8 {
+            let mut flat = flat;
+            if kept & 1 == 0 {
+                flat.read_count = 0;
+            }
+            if kept & 2 == 0 {
+                flat.write_chunks = 0;
+            }
+            if kept & 4 == 0 {
+                (flat.reply_present, flat.reply_count) = (0, 0);
+            }
+            long_rooms(check, &flat)?;
+            for over in ONE_OVER {
+                let mut flat = flat;
+                over(&mut flat);
+                long_rooms(check, &flat)?;
+            }
+        }
+        for over in (0..7).flat_map(|field| (1..=30).map(move |over| (field, over))) {
+            let mut flat = flat;
+            *counted(&mut flat, over.0) += over.1;
+            [0, 28, 960, 1024, 4096].iter().try_for_each(|&room| check.write(&flat, room))?;
+        }
+    }
+    check.family("write full, unaligned");
+    for (base, entry) in fulls.iter().flat_map(|base| (0..16).map(move |entry| (base, entry))) {
+        let flat = rng.noisy(base);
+        for step in 1..=3 {
+            let mut flat = flat;
+            flat.reads[entry].position |= step;
+            long_rooms(check, &flat)?;
+            ONE_OVER[(entry + step as usize) % 8](&mut flat);
+            long_rooms(check, &flat)?;
+        }
+    }
+    Ok(())
+}
+
 fn random_headers<C: Calls>(check: &mut Checker<C>, rng: &mut Rng, cases: u64) -> Outcome {
     check.family("write random headers");
     for _ in 0..cases {
@@ -499,5 +721,8 @@ pub fn run<C: Calls>(check: &mut Checker<C>, rng: &mut Rng, cases: u64) -> Outco
     positions(check, rng)?;
     random_frames(check, rng, cases)?;
     faulty_headers(check, rng)?;
-    random_headers(check, rng, cases)
+    random_headers(check, rng, cases)?;
+    // Drawn aside, so that all else is drawn as without them.
+    by_hand(check)?;
+    longest(check, &mut rng.aside())
 }

@@ -269,6 +269,69 @@ pub fn worked<C: Calls>(check: &mut Checker<C>) -> Outcome {
     [version(1), chunk].iter().try_for_each(|reply| check.read(reply).and_then(|()| check.start(reply, 64)))
 }
 
+/// Frames that get replies and frames that get none, as (frame, whether there is a reply to it): a header's,
+/// with other versions and procedures, cut off, damaged.
+fn told_apart(rng: &mut Rng) -> Vec<(Vec<u8>, bool)> {
+    let mut frames = Vec::new();
+    for header in bases(rng) {
+        let frame = rng.frame(&header, 9);
+        let answered = !matches!(header.kind, Kind::Error(_));
+        frames.push((frame.clone(), answered));
+        for version in [0, 2, 0x0100_0000, u32::MAX] {
+            let mut frame = frame.clone();
+            put(&mut frame, 1, version);
+            frames.push((frame, answered));
+        }
+        for procedure in [2, 3, 4, 5, 0x0400_0000] {
+            let mut frame = frame.clone();
+            put(&mut frame, 3, procedure);
+            frames.push((frame, procedure != 4));
+        }
+        for length in [0, 1, 4, 15, 16, 17, frame.len() - 1] {
+            frames.push((frame[..length].to_vec(), answered && length >= 16));
+        }
+        let mut damaged = frame.clone();
+        let at = 16 + rng.below(damaged.len() - 16);
+        damaged[at] ^= 1 << rng.below(8);
+        frames.push((damaged, answered));
+    }
+    frames
+}
+
+/// Number 21 is given no more, but still taken, and answered none; those beside it are as they were.
+pub fn number_21<C: Calls>(check: &mut Checker<C>, rng: &mut Rng) -> Outcome {
+    let frames = told_apart(rng);
+    check.family("reply for 21");
+    for (frame, limit) in
+        frames.iter().flat_map(|(frame, _)| [0, 1, 32, u32::MAX].map(|limit| (frame, limit)))
+    {
+        for (number, room) in (20..=23).flat_map(|number| ROOMS.map(|room| (number, room))) {
+            check.error_reply(frame, frame.len(), number, limit, room)?;
+        }
+        for number in [0, 2, 4, 5, 8, 9, 15, 16, 19, 21, 22, 24, 26, 29, 30, 0x15_00, 0x1500_0000, u32::MAX] {
+            check.error_reply(frame, frame.len(), number, limit, [960, 1024, 28][rng.below(3)])?;
+        }
+    }
+    check.family("reply for 21 by hand");
+    for (frame, answered) in &frames {
+        for room in [0, 1, 19, 20, 27, 28, 960, 1024] {
+            for number in [20, 21] {
+                check.no_reply(frame, number, 0, room, 20)?;
+                [1, 32, u32::MAX]
+                    .iter()
+                    .try_for_each(|&limit| check.no_reply(frame, number, limit, room, 0))?;
+            }
+            for number in [22, 23, 26, 29] {
+                [0, 1, 32].iter().try_for_each(|&limit| check.no_reply(frame, number, limit, room, 20))?;
+            }
+        }
+        // For contrast: a chunk reply's room is asked for, or not.
+        check.no_reply(frame, 15, 32, 19, if *answered { 16 } else { 0 })?;
+        check.no_reply(frame, 8, 32, 19, if *answered { 16 } else { 0 })?;
+    }
+    Ok(())
+}
+
 /// Frames of all sorts, each with any number.
 pub fn read_back<C: Calls>(check: &mut Checker<C>, rng: &mut Rng, cases: u64) -> Outcome {
     check.family("reply read back");
@@ -314,5 +377,7 @@ pub fn run<C: Calls>(check: &mut Checker<C>, rng: &mut Rng, cases: u64) -> Outco
     replies(check, rng, cases)?;
     echoes(check, rng, cases)?;
     after_reading(check, rng, cases)?;
-    read_back(check, rng, cases)
+    read_back(check, rng, cases)?;
+    // Drawn aside, so that all else is drawn as without it.
+    number_21(check, &mut rng.aside())
 }

@@ -4,7 +4,7 @@ use super::lent::{Buffer, Place};
 use super::seen::{Call, Form};
 use super::{hex, same_list, same_number, Checker, Outcome};
 use crate::calls::Calls;
-use crate::convert::{flatten, unflatten};
+use crate::convert::{asked_length, flatten, unflatten};
 use crate::reference::header;
 use eoswynnor::ffi::{Header, Part};
 
@@ -53,6 +53,20 @@ impl<C: Calls> Checker<C> {
     }
 
     pub fn write(&mut self, header: &Header, room: usize) -> Outcome {
+        self.write_beside(header, room, |right| right)
+    }
+
+    /// The number and the length are the caller's and not the reference's.
+    pub fn worked_write(&mut self, header: &Header, room: usize, want: Result<usize, u32>) -> Outcome {
+        self.write_beside(header, room, |_| want)
+    }
+
+    fn write_beside(
+        &mut self,
+        header: &Header,
+        room: usize,
+        want: impl FnOnce(Result<usize, u32>) -> Result<usize, u32>,
+    ) -> Outcome {
         self.count();
         self.memory.noise(room, &mut self.noise);
         let mut length = Place::noise(&mut self.noise);
@@ -61,11 +75,17 @@ impl<C: Calls> Checker<C> {
             .write_header(&mut place, self.memory.lent(), &mut length)
             .and_then(|number| {
                 self.seen.number(Call::Write, number);
-                if number == 0 && unsorted(header) {
-                    self.seen.form(Form::UnsortedWritten);
-                }
+                let asked = asked_length(header);
+                self.seen.forms(&[
+                    (Form::UnsortedWritten, number == 0 && unsorted(header)),
+                    (Form::FullWritten, (number, length.now.value) == (0, 960)),
+                    (Form::FullShort, (number, asked, room) == (16, 960, 959)),
+                    (Form::FullUnaligned, (number, asked) == (9, 960)),
+                    (Form::LongOverLimit, number == 7 && asked > 960),
+                    (Form::LongError, number == 12 && asked > 960),
+                ]);
                 self.judge_memory(number, &length, |out| {
-                    unflatten(header).and_then(|header| header::write(&header, out))
+                    want(unflatten(header).and_then(|header| header::write(&header, out)))
                 })
             })
             .map_err(|what| format!("{what}\nheader: {header:?}\n{}", self.buffer_text()))

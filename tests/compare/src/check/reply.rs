@@ -96,6 +96,12 @@ impl<C: Calls> Checker<C> {
         self.reply_beside(frame, number, limit, reply.len() + 5, put, || back)
     }
 
+    /// No reply, or a refusal: the answer is the caller's and not the reference's.
+    pub fn no_reply(&mut self, frame: &[u8], number: u32, limit: u32, room: usize, answer: u32) -> Outcome {
+        let none = |_: &mut [u8]| if answer == 0 { Ok(0) } else { Err(answer) };
+        self.reply_beside(frame, number, limit, room, none, || unreachable!("there is no reply"))
+    }
+
     fn reply_beside(
         &mut self,
         frame: &[u8],

@@ -23,8 +23,8 @@ pub enum Call {
     LedgerReply,
 }
 
-/// Each call's name and the numbers the families must draw from it; it never gives another. 8 stays
-/// reserved: document 02, order 3.
+/// Each call's name and the numbers the families must draw from it; it never gives another. 8 and 21 stay
+/// reserved: document 02, orders 3 and 7.
 const CALLS: [(&str, &[u32]); 15] = [
     ("read", &[0, 1, 2, 3, 4, 5, 6, 7, 9, 10, 11]),
     ("write", &[0, 7, 9, 12, 16, 20]),
@@ -52,6 +52,7 @@ pub enum Form {
     VersionReply,
     ChunkReply,
     ChunkReplyFor8,
+    NoReplyFor21,
     VersionEchoed,
     VersionReplyTo1,
     ChunkReplyToOther,
@@ -61,6 +62,11 @@ pub enum Form {
     NoReplyToReply,
     UnsortedRead,
     UnsortedWritten,
+    FullWritten,
+    FullShort,
+    FullUnaligned,
+    LongOverLimit,
+    LongError,
     MsgFinished,
     NomsgFinished,
     PaddedFinished,
@@ -121,13 +127,14 @@ pub enum Form {
     HistoryRunAcrossWrap,
 }
 
-const FORMS: [&str; 73] = [
+const FORMS: [&str; 79] = [
     "setup data",
     "no setup data",
     "no reply",
     "version reply",
     "chunk reply",
     "chunk reply for 8",
+    "no reply for 21",
     "version reply to another version",
     "version reply to version 1",
     "chunk reply to another version",
@@ -137,6 +144,11 @@ const FORMS: [&str; 73] = [
     "reply that gets no reply",
     "unsorted list read",
     "unsorted list written",
+    "header of 960 bytes written",
+    "16 for a header of 960 bytes and room for 959",
+    "9 for a header of 960 bytes",
+    "7 where 960 bytes would be passed",
+    "12 where 960 bytes would be passed",
     "MSG finished",
     "NOMSG finished",
     "message with padding",
@@ -230,6 +242,11 @@ fn is_other(frame: &[u8]) -> bool {
     frame.get(4..8) != Some(&[0, 0, 0, 1])
 }
 
+/// Whether a frame gets a reply where its answer number has one.
+fn is_answered(frame: &[u8]) -> bool {
+    frame.get(12..16).is_some_and(|procedure| procedure != [0, 0, 0, 4])
+}
+
 impl Seen {
     pub fn number(&mut self, call: Call, number: u32) {
         *self.numbers[call as usize].entry(number).or_default() += 1;
@@ -267,6 +284,7 @@ impl Seen {
             (Form::VersionReply, version),
             (Form::ChunkReply, chunk),
             (Form::ChunkReplyFor8, chunk && about == 8),
+            (Form::NoReplyFor21, none && about == 21 && is_answered(frame)),
             (Form::VersionEchoed, version && is_other(frame)),
             (Form::VersionReplyTo1, version && !is_other(frame)),
             (Form::ChunkReplyToOther, chunk && is_other(frame)),
@@ -326,9 +344,9 @@ mod tests {
     use super::*;
     use crate::cases::words;
 
-    /// 8 is never given, by whatever call, nor is a number that the call does not check.
+    /// 8 and 21 are never given, by whatever call, nor is a number that the call does not check.
     #[test]
-    fn no_call_gives_8() {
+    fn no_call_gives_8_or_21() {
         use Call::*;
         let calls = [
             Read,
@@ -353,6 +371,8 @@ mod tests {
             assert_eq!(seen.unwanted(), Vec::<String>::new());
             seen.number(call, 8);
             assert_eq!(seen.unwanted(), [format!("{name} gave 8")]);
+            seen.number(call, 21);
+            assert_eq!(seen.unwanted(), [8, 21].map(|number| format!("{name} gave {number}")));
         }
         let mut seen = Seen::default();
         seen.piece(PieceAnswer { number: 0, goes: 32 });
@@ -400,6 +420,12 @@ mod tests {
         };
         told(&|seen| seen.reply(&frame(1), 2, 0, 28), &[VersionReply, VersionReplyTo1]);
         told(&|seen| seen.reply(&frame(1), 8, 0, 20), &[ChunkReply, ChunkReplyFor8]);
+        // To a frame that would get a reply for another number.
+        told(&|seen| seen.reply(&frame(1), 21, 0, 0), &[NoReply, NoReplyFor21]);
+        told(&|seen| seen.reply(&frame(1), 20, 0, 0), &[NoReply]);
+        told(&|seen| seen.reply(&frame(1)[..15], 21, 0, 0), &[NoReply]);
+        told(&|seen| seen.reply(&words(&[0x2a, 1, 0x20, 4]), 21, 0, 0), &[NoReply]);
+        told(&|seen| seen.reply(&frame(1), 21, 20, 0), &[]);
         for other in [0, 2, 0x0101, 0x0100_0000, 0x0100_0001, u32::MAX] {
             let frame = &frame(other);
             told(&|seen| seen.reply(frame, 2, 0, 28), &[VersionReply, VersionEchoed]);
