@@ -523,8 +523,9 @@ const LENGTHS: [(usize, &[usize], Option<usize>, usize); 16] = [
     (0, &[], None, 28), // C2
 ];
 
-/// One more than its limit in one count.
-const ONE_OVER: [fn(&mut ffi::Header); 8] = [
+/// One count past its limit where the header is full: by one, by so much that 1,024 bytes would be passed in
+/// an ERROR too, and in an absent chunk.
+const OVER: [fn(&mut ffi::Header); 12] = [
     |h| h.read_count = 17,
     |h| h.write_chunks = 5,
     |h| h.write_counts[0] += 1,
@@ -532,7 +533,10 @@ const ONE_OVER: [fn(&mut ffi::Header); 8] = [
     |h| h.write_counts[2] += 1,
     |h| h.write_counts[3] += 1,
     |h| h.reply_count = 17,
-    // Of an absent chunk.
+    |h| h.read_count = 20,
+    |h| h.write_chunks = 14,
+    |h| h.write_counts[3] += 6,
+    |h| h.reply_count = 22,
     |h| h.reply_present = 0,
 ];
 
@@ -540,7 +544,7 @@ const ONE_OVER: [fn(&mut ffi::Header); 8] = [
 pub fn by_hand<C: Calls>(check: &mut Checker<C>) -> Outcome {
     let rng = &mut Rng(8);
     let wide = [0, 1, 28, 959, 960, 961, 1024, 65_536];
-    let same = |check: &mut Checker<C>, flat: &ffi::Header, number: u32| {
+    let refused = |check: &mut Checker<C>, flat: &ffi::Header, number: u32| {
         wide.iter().try_for_each(|&room| check.worked_write(flat, room, Err(number)))
     };
     check.family("lengths by hand");
@@ -556,7 +560,7 @@ pub fn by_hand<C: Calls>(check: &mut Checker<C>) -> Outcome {
             for at in 0..reads {
                 let mut flat = flat;
                 flat.reads[at].position |= 1 + at as u32 % 3;
-                same(check, &flat, 9)?;
+                refused(check, &flat, 9)?;
             }
         }
     }
@@ -568,23 +572,22 @@ pub fn by_hand<C: Calls>(check: &mut Checker<C>) -> Outcome {
     }
     check.family("limits by hand");
     for counts in full_spreads() {
-        for (kind, over) in [Kind::Msg, Kind::Nomsg].into_iter().flat_map(|kind| ONE_OVER.map(|o| (kind, o)))
-        {
+        for (kind, over) in [Kind::Msg, Kind::Nomsg].into_iter().flat_map(|kind| OVER.map(|o| (kind, o))) {
             let mut flat = rng.noisy_of(kind, 16, counts, Some(16));
             over(&mut flat);
-            same(check, &flat, 7)?;
+            refused(check, &flat, 7)?;
             flat.reads[15].position |= 2;
-            same(check, &flat, 7)?;
+            refused(check, &flat, 7)?;
         }
         for kind in [ffi::ERROR_VERSION, ffi::ERROR_CHUNK] {
             let mut flat = rng.noisy_of(Kind::Msg, 16, counts, Some(16));
             flat.kind = kind;
-            same(check, &flat, 12)?;
-            for over in ONE_OVER {
+            refused(check, &flat, 12)?;
+            for over in OVER {
                 let mut flat = flat;
                 over(&mut flat);
                 flat.reads[0].position |= 1;
-                same(check, &flat, 12)?;
+                refused(check, &flat, 12)?;
             }
         }
     }
@@ -634,7 +637,7 @@ pub fn longest<C: Calls>(check: &mut Checker<C>, rng: &mut Rng) -> Outcome {
             *counted(&mut flat, field) = edge;
             [0, 960, 1024, 4096].iter().try_for_each(|&room| check.write(&flat, room))?;
         }
-        for (one, two) in ONE_OVER.iter().flat_map(|one| ONE_OVER.iter().map(move |two| (one, two))) {
+        for (one, two) in OVER.iter().flat_map(|one| OVER.iter().map(move |two| (one, two))) {
             let mut flat = flat;
             one(&mut flat);
             two(&mut flat);
@@ -661,7 +664,7 @@ pub fn longest<C: Calls>(check: &mut Checker<C>, rng: &mut Rng) -> Outcome {
                 (flat.reply_present, flat.reply_count) = (0, 0);
             }
             long_rooms(check, &flat)?;
-            for over in ONE_OVER {
+            for over in OVER {
                 let mut flat = flat;
                 over(&mut flat);
                 long_rooms(check, &flat)?;
@@ -680,7 +683,7 @@ pub fn longest<C: Calls>(check: &mut Checker<C>, rng: &mut Rng) -> Outcome {
             let mut flat = flat;
             flat.reads[entry].position |= step;
             long_rooms(check, &flat)?;
-            ONE_OVER[(entry + step as usize) % 8](&mut flat);
+            OVER[(entry + step as usize) % 12](&mut flat);
             long_rooms(check, &flat)?;
         }
     }

@@ -300,8 +300,8 @@ fn told_apart(rng: &mut Rng) -> Vec<(Vec<u8>, bool)> {
 
 /// Number 21 is given no more, but still taken, and answered none; those beside it are as they were.
 pub fn number_21<C: Calls>(check: &mut Checker<C>, rng: &mut Rng) -> Outcome {
-    let frames = told_apart(rng);
     check.family("reply for 21");
+    let frames = told_apart(rng);
     for (frame, limit) in
         frames.iter().flat_map(|(frame, _)| [0, 1, 32, u32::MAX].map(|limit| (frame, limit)))
     {
@@ -309,11 +309,16 @@ pub fn number_21<C: Calls>(check: &mut Checker<C>, rng: &mut Rng) -> Outcome {
             check.error_reply(frame, frame.len(), number, limit, room)?;
         }
         for number in [0, 2, 4, 5, 8, 9, 15, 16, 19, 21, 22, 24, 26, 29, 30, 0x15_00, 0x1500_0000, u32::MAX] {
-            check.error_reply(frame, frame.len(), number, limit, [960, 1024, 28][rng.below(3)])?;
+            check.error_reply(frame, frame.len(), number, limit, [19, 28, 960, 1024][rng.below(4)])?;
         }
     }
+    Ok(())
+}
+
+/// The same with answers by hand.
+pub fn number_21_by_hand<C: Calls>(check: &mut Checker<C>) -> Outcome {
     check.family("reply for 21 by hand");
-    for (frame, answered) in &frames {
+    for (frame, answered) in &told_apart(&mut Rng(9)) {
         for room in [0, 1, 19, 20, 27, 28, 960, 1024] {
             for number in [20, 21] {
                 check.no_reply(frame, number, 0, room, 20)?;
@@ -325,9 +330,10 @@ pub fn number_21<C: Calls>(check: &mut Checker<C>, rng: &mut Rng) -> Outcome {
                 [0, 1, 32].iter().try_for_each(|&limit| check.no_reply(frame, number, limit, room, 20))?;
             }
         }
-        // For contrast: a chunk reply's room is asked for, or not.
-        check.no_reply(frame, 15, 32, 19, if *answered { 16 } else { 0 })?;
-        check.no_reply(frame, 8, 32, 19, if *answered { 16 } else { 0 })?;
+        // For contrast: numbers that have a reply, to which frames.
+        for (number, room) in [(2, 27), (8, 19), (15, 19)] {
+            check.no_reply(frame, number, 32, room, if *answered { 16 } else { 0 })?;
+        }
     }
     Ok(())
 }
@@ -379,5 +385,6 @@ pub fn run<C: Calls>(check: &mut Checker<C>, rng: &mut Rng, cases: u64) -> Outco
     after_reading(check, rng, cases)?;
     read_back(check, rng, cases)?;
     // Drawn aside, so that all else is drawn as without it.
-    number_21(check, &mut rng.aside())
+    number_21(check, &mut rng.aside())?;
+    number_21_by_hand(check)
 }

@@ -155,3 +155,40 @@ impl<C: Calls> Checker<C> {
         run().map_err(|what| format!("{what}\nframe: {}", hex(frame)))
     }
 }
+
+#[cfg(test)]
+mod tests {
+    use super::*;
+    use crate::cases::header::full;
+    use crate::plain::Plain;
+    use eoswynnor::ffi::{ERROR_CHUNK, ERROR_VERSION};
+
+    /// A full header, changed or in too little room, stands for one of the forms or for none.
+    #[test]
+    fn forms_of_full_headers() {
+        let told = |room: usize, change: fn(&mut Header), form: &[&str]| {
+            let mut check = Checker::new(Plain, 1);
+            check.family("one check alone");
+            let mut header = flatten(&full());
+            change(&mut header);
+            check.write(&header, room).unwrap();
+            let lines = check.seen.lines().into_iter();
+            let lines: Vec<String> =
+                lines.filter(|line| line.contains("960") && !line.ends_with(": 0")).collect();
+            assert_eq!(lines, form.iter().map(|form| format!("{form}: 1")).collect::<Vec<_>>());
+        };
+        told(960, |_| {}, &["header of 960 bytes written"]);
+        told(961, |_| {}, &["header of 960 bytes written"]);
+        told(960, |h| h.reply_count = 15, &[]);
+        told(959, |_| {}, &["16 for a header of 960 bytes and room for 959"]);
+        told(958, |_| {}, &[]);
+        told(943, |h| h.reply_count = 15, &[]);
+        told(0, |h| h.reads[15].position |= 1, &["9 for a header of 960 bytes"]);
+        told(960, |h| (h.reads[0].position, h.reply_count) = (1, 15), &[]);
+        told(960, |h| h.read_count = 17, &["7 where 960 bytes would be passed"]);
+        told(960, |h| h.reply_present = 0, &[]);
+        told(960, |h| (h.kind, h.read_count) = (ERROR_VERSION, 17), &["12 where 960 bytes would be passed"]);
+        told(960, |h| h.kind = ERROR_VERSION, &[]);
+        told(960, |h| h.kind = ERROR_CHUNK, &[]);
+    }
+}

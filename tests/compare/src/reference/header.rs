@@ -360,6 +360,7 @@ mod tests {
         }
         assert_eq!(lengths.len(), 2 * 17 * (1 + 4 * 17) * 18);
         lengths.sort_unstable();
+        assert_eq!(lengths.last().map(|longest| longest.0), Some(MAX_HEADER));
         // Once as MSG and once as NOMSG.
         let full = (960, 16, 4, 16, Some(16));
         assert_eq!(lengths[lengths.len() - 2..], [full; 2]);

@@ -2,8 +2,9 @@
 
 use super::{can_fail, is_found, mistakes, order, reply, store_behind, Wrong};
 use crate::calls::HeaderCalls;
-use crate::cases::header::{c2, full, run};
-use crate::convert::flatten;
+use crate::cases::header::{by_hand, c2, full, longest, run};
+use crate::check::Checker;
+use crate::convert::{asked_length, flatten};
 use crate::plain::Plain;
 use crate::reference::header::{encode, MAX_HEADER};
 use crate::rng::Rng;
@@ -28,9 +29,80 @@ mistakes! {
     // What a writing leaves.
     ByteBehindCleared ShortBufferWritten ShortBufferLength RefusalLengthZero RefusalLengthNeeded
     WriteStoresBehind
+    // Number 21, which no header gets: the check kept at another length, for some headers, elsewhere.
+    LongerThan959 LongerThan951 LongerThan512 LongerThan28 LongerThan959Behind16 FullMsgAs21 FullNomsgAs21
+    FullWithEmptyChunksAs21
+    // By the buffer's length; in place of 16.
+    RoomUnder960As21 RoomUnder1024As21 RoomOf960As21 RoomOver960As21 RoomOver1024As21 ShortAs21 ShortFullAs21
+    // 16 by another length than the header's, or not at all.
+    RoomUnder960As16 RoomUnder1024As16 RoomUnder960First FullNeeds961 FullNeeds1024 CutToRoom
+    // In place of 7: of each, by length, by the one count that is over its limit; no 7 below a length.
+    OverLimitAs21 Over960As21 Over1024As21 ReadsOver1024As21 ChunksOver1024As21 SegmentsOver1024As21
+    ReplyOver1024As21 AbsentReplyAs21 LimitsBy960 LimitsBy1024
+    // In place of 12 and 9.
+    ErrorFrom952As21 ErrorOver960As21 ErrorOver1024As21 UnalignedAs21 FullUnalignedAs21
+    // 16 before the others.
+    ShortBefore12 ShortBefore7 ShortBefore9 ShortBefore9InFull
+    // A full header's bytes and length, and what a refusal leaves.
+    FullByteShort FullSegmentShort FullLastByteKept FullLength1024 Length960 LengthOfRoom ZerosUpTo960
+    ShortStores960 OverLimitStoresAsked OverLimitWritten UnalignedWritten KindWritten
     // What is lent for reading alone.
     ReadChangesFrame RefusedReadChangesFrame PayloadChangesFrame WriteClearsReserved
     RefusedWriteMendsKind
+}
+
+/// The number given in place of the right one where lengths are misjudged.
+fn misjudge(mistake: Mistake, header: &ffi::Header, room: usize, number: u32) -> u32 {
+    let (asked, kind) = (asked_length(header), header.kind);
+    let full = asked == 960;
+    let short = (room as u64) < asked;
+    let counts = header.write_counts.iter().take(header.write_chunks as usize);
+    let segments: u64 = counts.clone().map(|&count| u64::from(count)).sum();
+    let over = [header.read_count > 16, header.write_chunks > 4, segments > 16, header.reply_count > 16];
+    let over1024 =
+        |which: usize| asked > 1024 && over.iter().enumerate().all(|(at, &is)| is == (at == which));
+    let given = match (mistake, number) {
+        (LongerThan959, 0 | 16) => (asked > 959).then_some(21),
+        (LongerThan951, 0 | 16) => (asked > 951).then_some(21),
+        (LongerThan512, 0 | 16) => (asked > 512).then_some(21),
+        (LongerThan28, 0 | 16) => (asked > 28).then_some(21),
+        (LongerThan959Behind16, 0) => (asked > 959).then_some(21),
+        (FullMsgAs21, 0 | 16) => (full && kind == ffi::MSG).then_some(21),
+        (FullNomsgAs21, 0 | 16) => (full && kind == ffi::NOMSG).then_some(21),
+        (FullWithEmptyChunksAs21, 0 | 16) => (full && counts.clone().any(|&n| n == 0)).then_some(21),
+        (RoomUnder960As21, 0 | 16) => (room < 960).then_some(21),
+        (RoomUnder1024As21, 0 | 16) => (room < 1024).then_some(21),
+        (RoomOf960As21, 0 | 16) => (room == 960).then_some(21),
+        (RoomOver960As21, 0 | 16) => (room > 960).then_some(21),
+        (RoomOver1024As21, 0 | 16) => (room > 1024).then_some(21),
+        (ShortAs21, 16) => Some(21),
+        (ShortFullAs21, 16) => full.then_some(21),
+        (RoomUnder960As16, 0) => (room < 960).then_some(16),
+        (RoomUnder1024As16, 0) => (room < 1024).then_some(16),
+        (RoomUnder960First, 0 | 7 | 9 | 12) => (room < 960).then_some(16),
+        (FullNeeds961, 0) => (full && room < 961).then_some(16),
+        (FullNeeds1024, 0) => (full && room < 1024).then_some(16),
+        (OverLimitAs21, 7) => Some(21),
+        (Over960As21, 7) => (asked > 960).then_some(21),
+        (Over1024As21, 7) => (asked > 1024).then_some(21),
+        (ReadsOver1024As21, 7) => over1024(0).then_some(21),
+        (ChunksOver1024As21, 7) => over1024(1).then_some(21),
+        (SegmentsOver1024As21, 7) => over1024(2).then_some(21),
+        (ReplyOver1024As21, 7) => over1024(3).then_some(21),
+        (AbsentReplyAs21, 7) => (over == [false; 4]).then_some(21),
+        // The room alone is left to be checked; what would be put is left out.
+        (LimitsBy960, 7) => (asked <= 960).then_some(if short { 16 } else { 0 }),
+        (LimitsBy1024, 7) => (asked <= 1024).then_some(if short { 16 } else { 0 }),
+        (ErrorFrom952As21, 12) => (asked > 951).then_some(21),
+        (ErrorOver960As21, 12) => (asked > 960).then_some(21),
+        (ErrorOver1024As21, 12) => (asked > 1024).then_some(21),
+        (UnalignedAs21, 9) => Some(21),
+        (FullUnalignedAs21, 9) => full.then_some(21),
+        (ShortBefore12, 12) | (ShortBefore7, 7) | (ShortBefore9, 9) => short.then_some(16),
+        (ShortBefore9InFull, 9) => (full && short).then_some(16),
+        _ => None,
+    };
+    given.unwrap_or(number)
 }
 
 impl HeaderCalls for Wrong {
@@ -123,6 +195,14 @@ impl HeaderCalls for Wrong {
             }
             _ => {}
         }
+        let before = out.to_vec();
+        if let Header(mistake) = *self {
+            let right = Plain.write_header(&mut given, &mut before.clone(), &mut { *length });
+            let number = misjudge(mistake, header, out.len(), right);
+            if number != right {
+                return number;
+            }
+        }
         let number = Plain.write_header(&mut given, out, length);
         match (*self, number) {
             (Header(ByteBehindCleared), 0) if *length < out.len() => out[*length] = 0,
@@ -134,6 +214,38 @@ impl HeaderCalls for Wrong {
             (Header(RefusalLengthZero), 1..) => *length = 0,
             (Header(RefusalLengthNeeded), 16) => {
                 Plain.write_header(header, &mut [0; MAX_HEADER], length);
+            }
+            (Header(CutToRoom), 16) => {
+                let mut whole = [0; MAX_HEADER];
+                Plain.write_header(&mut given, &mut whole, length);
+                out.copy_from_slice(&whole[..out.len()]);
+                *length = out.len();
+                return 0;
+            }
+            // A full header without its last byte or its last segment; its last byte not put.
+            (Header(FullByteShort), 0) if *length == 960 => {
+                out[959] = before[959];
+                *length = 959;
+            }
+            (Header(FullSegmentShort), 0) if *length == 960 => {
+                out[944..960].copy_from_slice(&before[944..960]);
+                *length = 944;
+            }
+            (Header(FullLastByteKept), 0) if *length == 960 => out[959] = before[959],
+            (Header(FullLength1024), 0) if *length == 960 => *length = 1024,
+            (Header(Length960), 0) => *length = 960,
+            (Header(LengthOfRoom), 0) => *length = out.len(),
+            // As many bytes as the longest header has, whatever was put into them.
+            (Header(ZerosUpTo960), 0) => {
+                let end = out.len().min(960);
+                out[*length..end].fill(0);
+            }
+            (Header(ShortStores960), 16) => *length = 960,
+            (Header(OverLimitStoresAsked), 7) => *length = asked_length(header) as usize,
+            (Header(OverLimitWritten), 7) | (Header(UnalignedWritten), 9) | (Header(KindWritten), 12)
+                if !out.is_empty() =>
+            {
+                out[0] ^= 1
             }
             (Header(WriteStoresBehind), 0) => store_behind(length, 0),
             (Header(WriteClearsReserved), 0) => header.reserved = 0,
@@ -149,6 +261,31 @@ fn each_is_found() {
     for &mistake in MISTAKES {
         is_found(Header(mistake), 5, |check| run(check, &mut Rng(5), 2_000));
     }
+}
+
+/// From the first named to the last.
+fn those(first: Mistake, last: Mistake) -> impl Iterator<Item = Mistake> {
+    MISTAKES[first as usize..=last as usize].iter().copied()
+}
+
+/// In a run the families before them find most: those of the limits, and the answers by hand, have to find
+/// each too.
+#[test]
+fn families_of_limits_find_each() {
+    for mistake in those(LongerThan959, KindWritten) {
+        is_found(Header(mistake), 5, |check| longest(check, &mut Rng(5)));
+        is_found(Header(mistake), 5, by_hand);
+    }
+}
+
+/// Told as a difference, and as a number that no call gives.
+#[test]
+fn number_21_is_told() {
+    let mut check = Checker::new(Header(LongerThan959), 1);
+    check.family("one check alone");
+    let told = check.write(&flatten(&full()), 959).unwrap_err();
+    assert!(told.starts_with("number: got 21, want 16"), "{told}");
+    assert_eq!(check.unwanted(), ["write gave 21"]);
 }
 
 /// The checks over several calls, each alone: in a run the families before them find the fault.

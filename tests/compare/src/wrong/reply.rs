@@ -4,8 +4,9 @@ use super::header::Mistake::{ErrorChunkCreditLost, PayloadInErrorChunk, Unaligne
 use super::{can_fail, is_found, mistakes, store_behind, Wrong};
 use crate::calls::{HeaderCalls, ReplyCalls};
 use crate::cases::header::c2_with;
-use crate::cases::reply::{echoes, read_back, run, worked};
+use crate::cases::reply::{echoes, number_21, number_21_by_hand, read_back, run, worked};
 use crate::cases::words;
+use crate::check::Checker;
 use crate::plain::Plain;
 use crate::rng::Rng;
 use crate::words::Words;
@@ -21,6 +22,13 @@ mistakes! {
     ReplyToError ReplyToErrorOfOtherVersion ProcedureByLastByte ShortFrameFilledUp
     NoReplyBeforeArgument ReplyFor10 ReplyFor4 ReplyFor16 NoReplyFor3 NoReplyFor8 NoReplyForStarts ChunkReplyFor2
     VersionReplyFor8 Number8Refused
+    // Number 21: given no more, but still taken, and answered none.
+    Number21Refused Number21Given ChunkReplyFor21 VersionReplyFor21 VersionReplyFor21ToOther Number21ReadAgain
+    Number21RefusedWhole Number21RefusedUnanswered ShortRoomFor21 LimitZeroTakenFor21 LimitZeroFor21As21
+    Length20For21 LengthKeptFor21 XidWrittenFor21 BufferClearedFor21
+    // The numbers beside it, and 21 for another refusal.
+    Number20Refused ChunkReplyFor20 ChunkReplyFor22 Numbers23To26Taken TableWithout8 NumberAbove21As21
+    LimitZeroAs21 ShortRoomAs21
     Number22Taken NumberCutToByte LimitZeroTaken RoomBeforeNoReply LongerRoomForBoth
     // Its bytes.
     AskedForGrant LimitForGrant HighIsTwo XidReversed ChunkReplyOf28
@@ -286,6 +294,30 @@ impl ReplyCalls for Wrong {
             Reply(Number8Refused) if number == 8 => return 20,
             Reply(NoReplyForStarts) if (12..=15).contains(&number) => number = 0,
             Reply(ChunkReplyFor2) if number == 2 => number = 3,
+            Reply(Number21Refused) if number == 21 => return 20,
+            Reply(Number21Given) if fine && number == 21 => return 21,
+            Reply(ChunkReplyFor21) if number == 21 => number = 15,
+            Reply(VersionReplyFor21) if number == 21 => number = 2,
+            Reply(VersionReplyFor21ToOther) if number == 21 && version != 1 => number = 2,
+            // The number that reading gives, since none is given with 21.
+            Reply(Number21ReadAgain) if number == 21 => {
+                number = Plain.read_header(frame, &mut { ffi::Header::ZERO })
+            }
+            // Only where a reply could be; only where none could.
+            Reply(Number21RefusedWhole) if number == 21 && whole && !error => return 20,
+            Reply(Number21RefusedUnanswered) if number == 21 && (!whole || error) => return 20,
+            Reply(ShortRoomFor21) if fine && number == 21 && out.len() < 20 => return 16,
+            Reply(LimitZeroTakenFor21) if number == 21 => limit = limit.max(1),
+            Reply(LimitZeroFor21As21) if number == 21 && limit == 0 => return 21,
+            Reply(Number20Refused) if number == 20 => return 20,
+            Reply(ChunkReplyFor20) if number == 20 => number = 15,
+            Reply(ChunkReplyFor22) if number == 22 => number = 15,
+            // Numbers that calls give.
+            Reply(Numbers23To26Taken) if (23..=26).contains(&number) => number = 0,
+            // Each entry behind that of 8 moved forward.
+            Reply(TableWithout8) if number >= 8 => number = number.saturating_add(1),
+            Reply(NumberAbove21As21) if number > 21 => return 21,
+            Reply(LimitZeroAs21) if limit == 0 => return 21,
             Reply(Number22Taken) if number == 22 => number = 21,
             Reply(NumberCutToByte) => number &= 0xff,
             Reply(LimitZeroTaken) => limit = limit.max(1),
@@ -325,6 +357,14 @@ impl ReplyCalls for Wrong {
             out[..written].copy_from_slice(&words(&reply));
         }
         match (*self, answer, written) {
+            (Reply(ShortRoomAs21), 16, _) => return 21,
+            // No reply, but not all is left as it is for one.
+            (Reply(Length20For21), 0, 0) if number == 21 => *length = 20,
+            (Reply(LengthKeptFor21), 0, 0) if number == 21 => *length = before,
+            (Reply(XidWrittenFor21), 0, 0) if number == 21 && whole && out.len() >= 4 => {
+                out[..4].copy_from_slice(&frame[..4])
+            }
+            (Reply(BufferClearedFor21), 0, 0) if number == 21 => out.fill(0),
             (Reply(AskedForGrant), 0, 20 | 28) => out[8..12].copy_from_slice(&frame[8..12]),
             (Reply(LimitForGrant), 0, 20 | 28) => out[8..12].copy_from_slice(&limit.to_be_bytes()),
             (Reply(HighIsTwo), 0, 28) => out[27] = 2,
@@ -422,6 +462,25 @@ fn families_of_versions_find_each() {
         ChunkReplyRefused,
     ];
     by_hand.into_iter().for_each(|mistake| can_fail(Reply(mistake), worked));
+}
+
+/// In a run the families before them find most: those of 21 have to find each too.
+#[test]
+fn families_of_21_find_each() {
+    for mistake in those(Number21Refused, Number22Taken) {
+        is_found(Reply(mistake), 5, |check| number_21(check, &mut Rng(5)));
+        is_found(Reply(mistake), 5, number_21_by_hand);
+    }
+}
+
+/// Told as a difference, and as a number that no call gives.
+#[test]
+fn number_21_is_told() {
+    let mut check = Checker::new(Reply(Number21Given), 1);
+    check.family("one check alone");
+    let told = check.error_reply(&c2_with(1, 1), 28, 21, 32, 28).unwrap_err();
+    assert!(told.starts_with("number: got 21, want 0"), "{told}");
+    assert_eq!(check.unwanted(), ["error reply gave 21"]);
 }
 
 /// The checks over several calls, each alone: in a run the families before them find the fault.
