@@ -35,7 +35,7 @@ fn the_version_is_echoed() {
 }
 
 #[test]
-fn a_number_that_is_never_given_gets_no_reply() {
+fn number_21_is_taken_and_gets_no_reply() {
     let mut room = [7; MAX_REPLY];
     for frame in [&c6()[..], &c6()[..15], &[]] {
         assert_eq!(error_reply(frame, Refusal(21), 32, &mut room), Ok(&[][..]));

@@ -296,6 +296,7 @@ static void one_round(void)
     if (below(2))
         damage_header(&h);
     write_one(&h);
+    /* In so many rounds the longest comes. */
     if (round_at + 1 == 10000)
         CHECK(longest == EOS_MAX_HEADER);
 }

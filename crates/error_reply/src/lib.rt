@@ -41,7 +41,7 @@ const REPLY_KINDS: [ReplyKind; 22] = [
     ReplyKind::None,
     ReplyKind::None,
     ReplyKind::None,
-    ReplyKind::None,
+    ReplyKind::None, // 21, reserved
 ];
 
 // The reply that the table has for an answer number. The table is walked, so that each place read is one that the compiler

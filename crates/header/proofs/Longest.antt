@@ -55,7 +55,7 @@ header-most c l =
     let rest = rest-most (c .kind) (partsBytes (c .reads) (c .writes) (c .reply)) 944 (rw (length-append, length-append, reads, writes) (omega arith)) (omega arith) in
     rw (length-append, fixed-length) (omega arith)
 
--- Runs are no longer together than they were to be.
+-- Runs have together at most as many elements as they were to have.
 runs-most : {A : Type 0} (ns : List ℕ) (l : List A) → total (map length (runs ns l)) ≤ total ns
 unfolding runs total
 runs-most [] l = omega arith
@@ -66,7 +66,7 @@ reply-count false n l h = omega arith
 reply-count true n l h = omega (arith, length-take n l)
 
 -- What a header holds that keeps the limits, be its places there or not.
-pub header-limited : (h : Header) → keepsLimits h ≡ true → Limited (contentOf h)
+header-limited : (h : Header) → keepsLimits h ≡ true → Limited (contentOf h)
 unfolding contentOf
 header-limited h keeps =
     let few = few-counts _ _ _ _ _ keeps in
@@ -84,7 +84,7 @@ header-limited h keeps =
 pub longest : (h : Header) → keepsLimits h ≡ true → length (headerBytes (contentOf h)) ≤ 960
 longest h keeps = header-most (contentOf h) (header-limited h keeps)
 
--- A content that was read.
+-- A content that is allowed, as one that was read is, is within the limits.
 allowed-reply : (o : Option (List Segment)) → ReplyAllowed o → replyChunkOf o .count ≤ 16
 allowed-reply none a = omega arith
 allowed-reply (some l) a = a .0

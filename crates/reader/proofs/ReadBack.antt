@@ -68,7 +68,7 @@ read-list-back (x ∷ l) r (suc room) f h p =
     )
 
 -- How long the bytes of segments are.
-pub length-segments : (l : List Segment) (r : List ℕ) → length (joined segmentBytes l ++ r) ≡ length l * 16 + length r
+length-segments : (l : List Segment) (r : List ℕ) → length (joined segmentBytes l ++ r) ≡ length l * 16 + length r
 unfolding joined
 length-segments [] r = omega arith
 length-segments (x ∷ l) r = simp (append-assoc, length-segment) (omega (arith, length-segments l r))

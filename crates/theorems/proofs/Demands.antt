@@ -488,17 +488,17 @@ order-6-cases = worked.passed
 pub order-7-longest : (h : Header) → keepsLimits h ≡ true → length (headerBytes (contentOf h)) ≤ 960
 order-7-longest = longest.longest
 
--- And 960 is reached, by C13's header.
-pub order-7-reached : (writeAnswer full 960 ≡ record { number = 0; length = 960 }) × (writeAnswer full 959 ≡ record { number = 16; length = 0 })
-order-7-reached = worked.reached
-
 -- Nor does the header of a frame that was read.
 pub order-7-read : (frame : List ℕ) (c : Content) (payload : List ℕ) → AllBytes frame → readFrame frame ≡ done c payload → length frame ≤ 960 + length payload
 order-7-read = frame-read.frame-most
 
+-- And 960 is reached, by C13's header.
+pub order-7-reached : writeAnswer full 960 ≡ record { number = 0; length = 960 }
+order-7-reached = worked.reached
+
 -- "Show that it cannot be given": by the writer as it was, whose definition stands beside that proof, for a header by value (`some h`) and for one that is lent.
 pub order-7-could-not : (h : Option Header) (room : ℕ) → formerAnswer h room .number ≡ 21 → ⊥
-order-7-could-not = reserved.former-never
+order-7-could-not = former.could-not
 
 -- "and take the check out of the writer": it answers as it did, for every header and every buffer.
 pub order-7-as-before : (h : Option Header) (out : List ℕ) → (writeWordsAnswer h (length out) ≡ formerAnswer h (length out)) × (writeWordsBuffer h out ≡ formerBuffer h out)

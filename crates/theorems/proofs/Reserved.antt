@@ -1,7 +1,7 @@
 -- No call gives 8 or 21.
 -- Assumes nothing.
 use Prim.Native.Nat.{ℕ, zero, suc, _+_, _-_, _*_, _%_}
-use mathlib.Core.Path.{_≡_, refl, _∙_}
+use mathlib.Core.Path.{_≡_, refl}
 use mathlib.Core.Bool.{Bool, true, false, cond, not, _&&_, _||_}
 use mathlib.Core.List.{List, [], _∷_}
 use mathlib.Core.Option.{Option, none, some}
@@ -24,7 +24,6 @@ use Rattle.header.specs.Limits.{keepsLimits}
 use Rattle.header.specs.Bytes.{headerBytes}
 use Rattle.reader.specs.Frame.{threeParts, errorContent, errorBody, nothingBehind, byProcedure, readFrame, readAnswer, readNumber}
 use Rattle.writer.specs.Write.{bareIfError, entriesNumber, writeNumber, writeAnswer, writeWordsAnswer}
-use Rattle.writer.proofs.Former.{formerAnswer, same-number}
 use Rattle.setup.specs.Setup.{isSetup, setupAt, noSetup, readSetup, setupInRule, setupBytes, noAgreement, writeSetupNumber, writeSetupAnswer, agreement}
 use Rattle.setup.specs.declared.Setup.{Setup}
 use Rattle.setup.specs.declared.Agreement.{Agreement}
@@ -300,9 +299,3 @@ module _ (n : ℕ) (kept : isReserved n ≡ true) where
     in-sending-by-ledger = λ l. apart (other-sent l);
     in-replying-to-ledger = λ l xid grant. apart (other-answered l xid grant);
   }
-
--- Nor did the writer give 21 while it checked it.
-pub former-never : (h : Option Header) (room : ℕ) → formerAnswer h room .number ≡ 21 → ⊥
-unfolding writeAnswer
-former-never none room e = omega arith
-former-never (some h) room e = never-given 21 refl .in-writing h room (same-number h room ∙ e)

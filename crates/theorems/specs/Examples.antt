@@ -69,7 +69,7 @@ pub data Example : Type 0 where
   agrees : Setup → Setup → Agreement → List ℕ → Example
   -- the table of replies, from number 0 on
   replies-are : List ReplyKind → Example
-  -- an error reply to a frame, for a number and a limit, into a buffer of so many bytes is refused with this number
+  -- an error reply to a frame, for a number and a limit, into a buffer of so many bytes gives this number and writes nothing
   reply-gives : List ℕ → ℕ → ℕ → ℕ → ℕ → Example
   -- reading the error reply to a frame, for a number and a limit, gives this
   reply-reads : List ℕ → ℕ → ℕ → ReadAnswer → Example
@@ -748,8 +748,7 @@ fourEach = 4 ∷ 4 ∷ 4 ∷ 4 ∷ []
 -- What order 7 says: the longest headers, and rooms about their length; one less in each count; one more, which is refused before a length could be; then 12 and 9 before the room; the longest ERROR header; 21 as an argument of the error reply, with room and without, and the numbers about it.
 abbrev pub longestCases : List Example
 longestCases =
-    header-takes full 960
-    ∷ header-gives full 959 16
+    header-gives full 959 16
     ∷ header-gives full 0 16
     ∷ header-takes (counting Nomsg 16 4 (16 ∷ 0 ∷ 0 ∷ 0 ∷ []) true 16) 960
     ∷ header-takes (counting Msg 15 4 fourEach true 16) 936
@@ -767,10 +766,10 @@ longestCases =
     ∷ header-takes (reading (Error (error.Version 5 6)) []) 28
     ∷ header-gives (reading (Error (error.Version 5 6)) []) 27 16
     ∷ replied c2 21 1 []
-    ∷ replied c3 21 32 []
     ∷ replied (take 15 c2) 21 32 []
     ∷ replied (words (0x2a ∷ 1 ∷ 0x20 ∷ 4 ∷ [])) 21 32 []
     ∷ reply-gives c2 21 32 28 0
     ∷ reply-gives c2 21 0 28 20
+    ∷ reply-gives c2 20 32 28 0
     ∷ reply-gives c2 22 32 28 20
     ∷ []

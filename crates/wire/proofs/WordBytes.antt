@@ -140,7 +140,7 @@ unfolding readSegmentBytes
 position-back x r f = simp append-assoc (word-back (x .position) (segmentBytes (x .target) ++ r) (f .position))
 
 -- A word is 4 bytes long.
-pub length-word : (x : ℕ) (r : List ℕ) → length (wordBytes x ++ r) ≡ 4 + length r
+length-word : (x : ℕ) (r : List ℕ) → length (wordBytes x ++ r) ≡ 4 + length r
 unfolding wordBytes
 length-word x r = omega arith
 

@@ -1,22 +1,24 @@
 -- Order 7: the writer answers as it did while it still checked 21. What it was to answer then stands here for that purpose alone.
 -- Assumes nothing.
-use mathlib.Core.Path.{_≡_, refl, sym, ap, _∙_}
+use mathlib.Core.Path.{_≡_, refl, _∙_}
 use mathlib.Core.Bool.{Bool, true, false}
 use mathlib.Core.List.{List}
 use mathlib.Core.Option.{Option, none, some}
-use Prim.Native.Nat.{ℕ, _≤_}
+use Prim.Native.Nat.{ℕ}
 use native.Mathlib.Omega.{arith}
 use lib.ListN.{length}
 use lib.Dec.{leb}
 use borrow.Author.Tests.{le-leb}
 use Rattle.answers.specs.Answers.{check, roomNumber, writerAnswer, writerBuffer}
 use Rattle.answers.specs.declared.WriteAnswer.{WriteAnswer}
+use Rattle.answers.proofs.Checks.{check-other}
 use Rattle.header.specs.Content.{contentOf}
 use Rattle.header.specs.Bytes.{headerBytes}
 use Rattle.header.specs.Limits.{keepsLimits}
 use Rattle.header.specs.declared.Header.{Header}
 use Rattle.header.proofs.Longest.{longest}
 use Rattle.writer.specs.Write.{bareIfError, entriesNumber, writeNumber, writeAnswer, writeBuffer, writeWordsAnswer, writeWordsBuffer}
+use Rattle.writer.proofs.Entries.{entries-other}
 
 -- "Writing a header checks 12 .., 7 .., then entry by entry 9 .., then 21, 16.", as order 3 left it.
 unfoldable pub formerNumber : Header → ℕ → ℕ
@@ -54,3 +56,13 @@ pub as-before : (h : Option Header) (out : List ℕ) → (writeWordsAnswer h (le
 unfolding writeAnswer writeBuffer
 as-before none out = (refl, refl)
 as-before (some h) out = rw (same-number h (length out)) (refl, refl)
+
+-- So 21 could not be given.
+pub could-not : (h : Option Header) (room : ℕ) → formerAnswer h room .number ≡ 21 → ⊥
+unfolding writeNumber
+could-not none room e = omega arith
+could-not (some h) room e =
+    let bare = check-other (bareIfError (h .kind) (h .reads .count) (h .writes .chunks) (h .reply .present)) 12 _ 21 (λ z. omega arith) (same-number h room ∙ e) in
+    let keeps = check-other (keepsLimits h) 7 _ 21 (λ z. omega arith) (bare .1) in
+    let last = check-other (leb (length (headerBytes (contentOf h))) room) 16 0 21 (λ z. omega arith) (entries-other (contentOf h .reads) _ 21 (λ z. omega arith) (keeps .1)) in
+    omega (arith, last .1)

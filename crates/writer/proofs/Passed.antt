@@ -21,7 +21,6 @@ use Rattle.header.specs.Fits.{Representable}
 use Rattle.header.specs.declared.Kind.{Kind}
 use Rattle.header.specs.declared.Kind.the-variants.{Msg, Nomsg, Error}
 use Rattle.wire.specs.declared.Segment.{Segment}
-use Rattle.wire.specs.declared.ReadSegment.{ReadSegment}
 use Rattle.header.specs.declared.Header.{Header}
 use Rattle.header.proofs.Allowed.{ReplyAllowed, Allowed, BareIfError}
 use Rattle.header.proofs.Contents.{all-take, all-runs, lengths-runs, contentOf-headerOf, counts-held, Within, chunks-same}
@@ -142,7 +141,7 @@ allowed-passed c room a h =
       fits = subst (λ (d : Content). length (headerBytes d) ≤ room) (sym same) h;
     }
 
--- A buffer of 960 bytes is never too short.
+-- A buffer of 960 bytes or more is never too short.
 pub room-suffices : (h : Option Header) (room : ℕ) → 960 ≤ room → writeWordsAnswer h room .number ≡ 16 → ⊥
 unfolding writeAnswer writeNumber
 room-suffices none room long e = omega arith

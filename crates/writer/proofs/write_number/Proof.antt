@@ -79,10 +79,10 @@ header-length-requires : tie.Need-header-length-requires
 header-length-requires c κs = let k = known (c .before .before) in (k .few .reads, k .few .chunks, rw (c .before .before .before .before .total-count .ensures) (k .few .segments), k .few .replies)
 
 returns-4 : tie.Need-returns-4
-returns-4 c = sym (then-length (c .before) ∙ simp (lt-leb _ _ (c .if4 .taken)))
+returns-4 c = sym (then-length (c .before) ∙ simp (lt-leb (c .before .header-length .result) (entry (c .before .before .before .before) .args .room) (c .if4 .taken)))
 
 returns-5 : tie.Need-returns-5
-returns-5 c = sym (then-length (c .before) ∙ simp (le-leb _ _ (c .if4 .left)))
+returns-5 c = sym (then-length (c .before) ∙ simp (le-leb (c .before .header-length .result) (entry (c .before .before .before .before) .args .room) (c .if4 .left)))
 
 pub write-number-spec : {M : Type 1} → statement M
 write-number-spec =
