@@ -18,7 +18,7 @@ use Rattle.header.specs.declared.Kind.the-variants.{Msg, Nomsg, Error}
 use Rattle.header.specs.declared.ErrorKind.the-variants.{Version, Chunk}
 use Rattle.header.proofs.Bytes.{read-list-length, write-list-length, chunk-length, fixed-length}
 use Rattle.header.proofs.Contents.{length-runs}
-use Rattle.header.proofs.Limits.{few-counts}
+use Rattle.header.proofs.Limits.{few-in, few-counts}
 use Rattle.header.proofs.Allowed.{ReplyAllowed, Allowed}
 
 -- A content whose lists are within their limits.
@@ -84,10 +84,16 @@ header-limited h keeps =
 pub longest : (h : Header) → keepsLimits h ≡ true → length (headerBytes (contentOf h)) ≤ 960
 longest h keeps = header-most (contentOf h) (header-limited h keeps)
 
--- A content that is allowed, as one that was read is, is within the limits.
-allowed-reply : (o : Option (List Segment)) → ReplyAllowed o → replyChunkOf o .count ≤ 16
-allowed-reply none a = omega arith
-allowed-reply (some l) a = a .0
+-- The struct of a reply chunk that is allowed keeps its limit.
+pub reply-limit : (o : Option (List Segment)) → ReplyAllowed o → replyChunkOf o .count ≤ cond (replyChunkOf o .present) 16 0
+reply-limit none a = omega arith
+reply-limit (some l) a = a .0
 
+-- A content that is allowed, as one that was read is, is within the limits.
 pub allowed-limited : (c : Content) → Allowed c → Limited c
-allowed-limited c a = record { reads = a .reads-limit; chunks = a .chunks-limit; segments = a .writes-limit; reply = allowed-reply (c .reply) (a .reply) }
+allowed-limited c a = record {
+  reads = a .reads-limit;
+  chunks = a .chunks-limit;
+  segments = a .writes-limit;
+  reply = few-in (replyChunkOf (c .reply) .present) (replyChunkOf (c .reply) .count) (reply-limit (c .reply) (a .reply));
+}

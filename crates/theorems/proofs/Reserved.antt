@@ -42,6 +42,7 @@ use Rattle.ledger.specs.declared.Ledger.{Ledger}
 use Rattle.returned.specs.Returned.{mismatch, returnedNumber, returnedAnswer, returnedWordsNumber}
 use Rattle.theorems.specs.Reserved.{NeverGiven}
 
+-- The numbers that are kept.
 abbrev isReserved : ℕ → Bool
 isReserved n = eqb n 8 || eqb n 21
 

@@ -38,11 +38,11 @@ formerBuffer none out = out
 formerBuffer (some h) out = writerBuffer (formerNumber h (length out)) (headerBytes (contentOf h)) out
 
 -- Behind a check that is passed only where another holds, that other need not be made.
-needless : (bare keeps short : Bool) (next : ℕ → ℕ) (room : ℕ) → (keeps ≡ true → short ≡ true) →
-    check bare 12 (check keeps 7 (next room)) ≡ check bare 12 (check keeps 7 (next (check short 21 room)))
-needless false keeps short next room h = refl
-needless true false short next room h = refl
-needless true true short next room h = rw (h refl)
+needless : (bare keeps short : Bool) (entries : ℕ → ℕ) (behind : ℕ) → (keeps ≡ true → short ≡ true) →
+    check bare 12 (check keeps 7 (entries behind)) ≡ check bare 12 (check keeps 7 (entries (check short 21 behind)))
+needless false keeps short entries behind h = refl
+needless true false short entries behind h = refl
+needless true true short entries behind h = rw (h refl)
 
 -- The number is the same for every header and every room.
 pub same-number : (h : Header) (room : ℕ) → writeNumber h room ≡ formerNumber h room

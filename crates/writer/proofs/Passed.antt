@@ -15,7 +15,7 @@ use Rattle.header.specs.Bytes.{headerBytes}
 use Rattle.writer.specs.Write.{bareIfError, entriesNumber, writeNumber, writeAnswer, writeWordsAnswer}
 use Rattle.header.specs.Limits.{total, withinLimits, keepsLimits}
 use Rattle.header.proofs.Limits.{few-counts}
-use Rattle.header.proofs.Longest.{longest}
+use Rattle.header.proofs.Longest.{reply-limit, longest}
 use Rattle.wire.specs.Fits.{All, SegmentFits, ReadSegmentFits}
 use Rattle.header.specs.Fits.{Representable}
 use Rattle.header.specs.declared.Kind.{Kind}
@@ -120,11 +120,6 @@ error-bare : (kind : Kind) (c : Content) → BareIfError kind c → bareIfError 
 error-bare Msg c b = refl
 error-bare Nomsg c b = refl
 error-bare (Error e) c b = simp (b .0, b .1, b .2)
-
--- The struct of a reply chunk that is allowed passes.
-reply-limit : (o : Option (List Segment)) → ReplyAllowed o → replyChunkOf o .count ≤ cond (replyChunkOf o .present) 16 0
-reply-limit none f = omega arith
-reply-limit (some l) f = f .0
 
 -- The struct of an allowed content passes every check, where there is room.
 pub allowed-passed : (c : Content) (room : ℕ) → Allowed c → length (headerBytes c) ≤ room → Passed (headerOf c) room
