@@ -61,7 +61,7 @@ fn kind_of(number: u32) -> ReplyKind
 }
 
 // The reply to a frame that got an answer number.
-fn kind_for(frame: &[u8], number: u32) -> ReplyKind
+pub fn kind_for(frame: &[u8], number: u32) -> ReplyKind
     requires { ⌜ (16 ≤ length (now frame)) × (number ≤ 21) ⌝ }
     ensures { λ r. ⌜ r ≡ replyKindFor (now (frame .entry)) number ⌝ }
 {

@@ -36,6 +36,7 @@ use Rattle.setup.proofs.RoundTrip as setup-trip
 use Rattle.credit.specs.Credit.{granted}
 use Rattle.error_reply.specs.Reply.{replyKindOf, replyKindFor, errorReply, errorReplyNumber, errorReplyAnswer, errorReplyBuffer}
 use Rattle.error_reply.specs.Meant.{meant, writtenReply}
+use Rattle.error_reply.specs.Internal.Length.{replyLength}
 use Rattle.error_reply.specs.declared.ReplyKind.the-variants as reply
 use Rattle.error_reply.proofs.ReplyRead as reply-read
 use Rattle.read_order.specs.ReadOrder.{sorted, isSorted}
@@ -82,6 +83,14 @@ use Rattle.theorems.proofs.Demand3 as demand-three
 use Rattle.theorems.proofs.Exports as exports
 use Rattle.theorems.proofs.Reserved as reserved
 use Rattle.theorems.proofs.InOrder as in-order
+use Rattle.trace_text.specs.Verdict.{answer, replyTo}
+use Rattle.trace_text.proofs.Shown as shown
+use Rattle.trace.specs.Session.{Replayed, Progress}
+use Rattle.trace.specs.Frames.{AnyFrames, CountedOnce}
+use Rattle.trace.specs.Examples.{Examples, DigitLimit, LineLimit}
+use Rattle.trace.proofs.Replayed as replayed
+use Rattle.trace.proofs.AnyFrames as any-frames
+use Rattle.trace.proofs.Examples as replay-examples
 use Rattle.theorems.proofs.Examples as worked
 use Rattle.theorems.proofs.Returned as returns
 
@@ -520,3 +529,35 @@ order-7-reply = reply-read.takes-21
 -- Order 7, case by case.
 pub order-7-cases : All Holds longestCases
 order-7-cases = worked.within-960
+
+-- Order 8: "A program reads them from standard input, reads each frame as 01's reader does with limit 32, and writes a report." However the input is cut into blocks, and whatever buffers the report is written to, the first line and what the calls write are the report on the bytes that they took.
+pub order-8-replayed : Replayed
+order-8-replayed = replayed.replayed
+
+-- And they take all: a call takes its whole block, but where the buffer has no room for another line.
+pub order-8-progress : Progress
+order-8-progress = replayed.progress
+
+-- "with limit 32": the reply that is shown is the one that 01's error reply writes for the frame, its number and that limit, told by its length.
+pub order-8-reply : (frame : List ℕ) → length (errorReply frame (answer frame) 32) ≡ replyLength (replyTo frame)
+order-8-reply = shown.reply-shown
+
+-- "A line with an odd number of digits, another character, or above 8,192 digits is `bad`."
+pub order-8-digits : (line : List ℕ) → DigitLimit line
+order-8-digits = replay-examples.digit-limit
+
+-- "inputs have at most 1,000,000 lines and the program stops with `too long` in place of the sums when another begins"
+pub order-8-lines : (s : List ℕ) → LineLimit s
+order-8-lines = replay-examples.line-limit
+
+-- "The sums are proved over a list of any frames within that limit."
+pub order-8-sums : AnyFrames
+order-8-sums = any-frames.any-frames
+
+-- "The last line's sums count all frames, a bad line only as bad": each line once.
+pub order-8-once : CountedOnce
+order-8-once = any-frames.counted-once
+
+-- Order 8's own example, and other inputs with their reports.
+pub order-8-examples : Examples
+order-8-examples = replay-examples.examples

@@ -1,0 +1,9 @@
+pub mod Remaining
+pub mod Streaming
+pub mod Replayed
+pub mod AnyFrames
+pub mod Ends
+pub mod Turns
+pub mod Blocks
+pub mod Examples
+pub mod Promised

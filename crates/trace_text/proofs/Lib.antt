@@ -1,0 +1,4 @@
+pub mod Decimals
+pub mod Verdicts
+pub mod Texts
+pub mod Shown
