@@ -1,6 +1,6 @@
-//! What an implementation under comparison has: the calls of include/eoswynnor.h. Each answers its
-//! number, for a piece with the goes beside it, for a send with the xid and the number of those passed
-//! over, and stores what it makes.
+//! What an implementation under comparison has: the calls of include/eoswynnor.h and the program `replay`.
+//! Each call answers its number, for a piece with the goes beside it, for a send with the xid and the
+//! number of those passed over, and stores what it makes; the program answers its report.
 //!
 //! All is lent for writing, also what a call may only read: an implementation that changes it can
 //! then be written, and the comparison afterwards is one that the compiler may not leave out.
@@ -50,6 +50,34 @@ pub trait LedgerCalls {
     fn ledger_reply(&self, ledger: &mut ffi::Ledger, xid: u32, grant: u32) -> u32;
 }
 
-pub trait Calls: HeaderCalls + SetupCalls + ReplyCalls + AssemblyCalls + ReturnedCalls + LedgerCalls {}
+/// How the program's input comes.
+#[derive(Clone, Copy, Debug, PartialEq)]
+pub enum Way {
+    /// Through a pipe that is closed behind the last block.
+    Closed,
+    /// Through a pipe that stays open until the report is at its end, which has to come without that of the
+    /// input.
+    Held,
+    /// Byte by byte, so that no reading gets more than one, whatever the blocks.
+    Singly,
+    /// From a file, whatever the blocks.
+    File,
+}
 
-impl<T: HeaderCalls + SetupCalls + ReplyCalls + AssemblyCalls + ReturnedCalls + LedgerCalls> Calls for T {}
+/// Said where the input was held open and the report had no end.
+pub const NOT_STOPPED: &str = "does not stop, but waits for more input";
+
+pub trait ReplayCalls {
+    /// The program's report, or why there is none.
+    fn replay(&self, blocks: &[&[u8]], way: Way) -> Result<Vec<u8>, String>;
+}
+
+pub trait Calls:
+    HeaderCalls + SetupCalls + ReplyCalls + AssemblyCalls + ReturnedCalls + LedgerCalls + ReplayCalls
+{
+}
+
+impl<T> Calls for T where
+    T: HeaderCalls + SetupCalls + ReplyCalls + AssemblyCalls + ReturnedCalls + LedgerCalls + ReplayCalls
+{
+}

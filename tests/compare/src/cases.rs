@@ -5,6 +5,7 @@ pub mod goes;
 pub mod header;
 pub mod ledger;
 pub mod order;
+pub mod replay;
 pub mod reply;
 pub mod returned;
 pub mod setup;
@@ -67,5 +68,6 @@ pub fn run<C: Calls>(check: &mut Checker<C>, seed: u64, cases: u64) -> Outcome {
     goes::run(check, rng, cases)?;
     order::run(check, rng, cases)?;
     returned::run(check, rng, cases)?;
-    ledger::run(check, rng, cases)
+    ledger::run(check, rng, cases)?;
+    replay::run(check, rng, cases)
 }

@@ -4,6 +4,7 @@ mod assembly;
 mod header;
 mod ledger;
 mod lent;
+mod replay;
 mod reply;
 mod returned;
 mod seen;
@@ -12,6 +13,7 @@ mod watched;
 
 pub use assembly::Step;
 pub use ledger::{Operation, Start};
+pub use replay::Cuts;
 
 use crate::calls::Calls;
 use crate::rng::Rng;

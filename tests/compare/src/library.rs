@@ -1,6 +1,9 @@
-//! The calls of the compiled library. Each is lent exactly what it is given.
+//! The calls of the compiled library, and the program beside it. Each is lent exactly what it is given.
 
-use crate::calls::{AssemblyCalls, HeaderCalls, LedgerCalls, ReplyCalls, ReturnedCalls, SetupCalls};
+use crate::calls::{
+    AssemblyCalls, HeaderCalls, LedgerCalls, ReplayCalls, ReplyCalls, ReturnedCalls, SetupCalls, Way,
+};
+use crate::program;
 use eoswynnor::ffi;
 
 pub struct Library;
@@ -103,5 +106,11 @@ impl LedgerCalls for Library {
     #[inline(always)]
     fn ledger_reply(&self, ledger: &mut ffi::Ledger, xid: u32, grant: u32) -> u32 {
         unsafe { ffi::eos_ledger_reply(ledger, xid, grant) }
+    }
+}
+
+impl ReplayCalls for Library {
+    fn replay(&self, blocks: &[&[u8]], way: Way) -> Result<Vec<u8>, String> {
+        program::run(&program::usual_file(), blocks, way)
     }
 }

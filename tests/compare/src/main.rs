@@ -1,7 +1,8 @@
 //! Compares the static library's calls (headers, setup data, agreement, grant, error reply,
-//! reassembly, what a reply says was landed, ledger) with a second implementation.
-//! Build with EOS_LIB_DIR naming the folder of libeoswynnor.a; options: --cases N (cases in each
-//! random family), --seed S, --vectors FILE (else what EOS_VECTORS names).
+//! reassembly, what a reply says was landed, ledger) and the program `replay` with a second implementation.
+//! Build with EOS_LIB_DIR naming the folder of libeoswynnor.a; the program is what EOS_REPLAY names, else
+//! target/bin/replay above this package. Options: --cases N (cases in each random family), --seed S,
+//! --vectors FILE (else what EOS_VECTORS names).
 //! One line for each family, then the numbers, goes, counts of xids passed over and forms seen and the
 //! total; the first difference is printed with its input and ends the run with status 1, as does one
 //! of them never seen, or a number seen that its call never gives (8 and 21 are given by none).
@@ -11,7 +12,7 @@ compile_error!("set EOS_LIB_DIR to the folder that holds libeoswynnor.a");
 
 use compare::check::Checker;
 use compare::library::Library;
-use compare::{cases, vectors};
+use compare::{cases, program, vectors};
 use std::process::ExitCode;
 
 fn main() -> ExitCode {
@@ -37,6 +38,10 @@ fn main() -> ExitCode {
             return ExitCode::from(2);
         }
     };
+    if let Err(why) = program::find(&program::usual_file()) {
+        eprintln!("{why}");
+        return ExitCode::from(2);
+    }
     let mut check = Checker::new(Library, seed);
     check.loud = true;
     let outcome = vectors::run(&mut check, &vectors).and_then(|()| cases::run(&mut check, seed, count));

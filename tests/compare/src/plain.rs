@@ -4,6 +4,7 @@
 mod assembly;
 mod header;
 pub mod ledger;
+mod replay;
 mod reply;
 mod returned;
 mod setup;
@@ -25,7 +26,7 @@ mod tests {
         let mut check = Checker::new(Plain, 3);
         assert_eq!(
             check.unseen().len(),
-            11 + 6 + 1 + 3 + 2 + 2 + 3 + 11 + 16 + 3 + 3 + 4 + 1 + 3 + 4 + 32 + 32 + 79
+            11 + 6 + 1 + 3 + 2 + 2 + 3 + 11 + 16 + 3 + 3 + 4 + 1 + 3 + 4 + 11 + 32 + 32 + 106
         );
         cases::run(&mut check, 3, 20_000).unwrap();
         assert_eq!((check.unseen(), check.unwanted()), (vec![], vec![]));

@@ -1,9 +1,10 @@
-//! The reference: the calls once more, straight from documents 01 and 02; clear rather than fast,
-//! and independent of the library.
+//! The reference: the calls and the program `replay` once more, straight from documents 01 and 02; clear
+//! rather than fast, and independent of the library.
 
 pub mod assembly;
 pub mod header;
 pub mod ledger;
+pub mod replay;
 pub mod reply;
 pub mod returned;
 pub mod setup;

@@ -1,11 +1,12 @@
-//! Wrong variants: the plain calls, or for the reassembly, its order, its goes, what was landed and the
-//! ledger third ones, with one mistake put in. The families must find each.
+//! Wrong variants: the plain calls, or for the reassembly, its order, its goes, what was landed, the
+//! ledger and the program `replay` third ones, with one mistake put in. The families must find each.
 
 mod assembly;
 mod goes;
 mod header;
 mod ledger;
 mod order;
+mod replay;
 mod reply;
 mod returned;
 mod setup;
@@ -45,6 +46,7 @@ enum Wrong {
     MessageOrder(order::Mistake),
     Returned(returned::Mistake),
     Ledger(ledger::Mistake),
+    Replay(replay::Mistake),
 }
 
 /// Stores a word behind what was lent; the guard is there.
@@ -82,4 +84,5 @@ fn without_a_mistake_all_agree() {
     cases::order::run(&mut check, &mut Rng(6), 2_000).unwrap();
     cases::returned::run(&mut check, rng, 2_000).unwrap();
     cases::ledger::run(&mut check, rng, 2_000).unwrap();
+    cases::replay::lines(&mut check, rng, 2_000).unwrap();
 }

@@ -21,11 +21,12 @@ pub enum Call {
     LedgerOpen,
     LedgerSend,
     LedgerReply,
+    Replay,
 }
 
 /// Each call's name and the numbers the families must draw from it; it never gives another. 8 and 21 stay
 /// reserved: document 02, orders 3 and 7.
-const CALLS: [(&str, &[u32]); 15] = [
+const CALLS: [(&str, &[u32]); 16] = [
     ("read", &[0, 1, 2, 3, 4, 5, 6, 7, 9, 10, 11]),
     ("write", &[0, 7, 9, 12, 16, 20]),
     ("setup read", &[0]),
@@ -41,6 +42,7 @@ const CALLS: [(&str, &[u32]); 15] = [
     ("ledger open", &[0]),
     ("ledger send", &[0, 17, 23]),
     ("ledger reply", &[0, 17, 24, 25]),
+    ("replay", &[0, 1, 2, 3, 4, 5, 6, 7, 9, 10, 11]),
 ];
 
 /// Answers that number 0 does not tell apart; each must be seen too.
@@ -125,9 +127,36 @@ pub enum Form {
     HistoryPassedOver,
     HistoryPassedAgain,
     HistoryRunAcrossWrap,
+    LineNone,
+    LineVers,
+    LineChunk,
+    LineNoneFor2,
+    LineNoneFor5,
+    LineAccepted,
+    LineRefused,
+    LineWithPayload,
+    LineOfUpperCase,
+    LineOfLowerCase,
+    LineOf8192,
+    LineEmpty,
+    LineOdd,
+    LineOther,
+    LineLong,
+    LastWithoutNewline,
+    LastBadWithoutNewline,
+    NoLine,
+    SumAbove16Bits,
+    SumAbove24Bits,
+    MillionLines,
+    MillionLinesWithoutNewline,
+    TooLong,
+    TooLongAtNewline,
+    TooLongHeldOpen,
+    FedSingly,
+    FedFromFile,
 }
 
-const FORMS: [&str; 79] = [
+const FORMS: [&str; 106] = [
     "setup data",
     "no setup data",
     "no reply",
@@ -207,6 +236,33 @@ const FORMS: [&str; 79] = [
     "history with xids passed over",
     "history with xids passed over again",
     "history with a run that wraps passed over",
+    "line with none",
+    "line with vers",
+    "line with chunk",
+    "line with 2 and none",
+    "line with 5 and none",
+    "line accepted",
+    "line refused",
+    "line with a payload",
+    "line of upper case accepted",
+    "line of lower case accepted",
+    "line of 8,192 digits accepted",
+    "line that is empty",
+    "line bad by an odd number of digits alone",
+    "line bad by another character alone",
+    "line bad by more than 8,192 digits alone",
+    "last line without newline",
+    "last line without newline bad",
+    "input without a line",
+    "sum of payloads above 16 bits",
+    "sum of payloads above 24 bits",
+    "input of 1,000,000 lines",
+    "input of 1,000,000 lines, the last without newline",
+    "input that is too long",
+    "input that is too long by a newline",
+    "input that is too long, held open",
+    "input byte by byte",
+    "input from a file",
 ];
 
 /// Order 2's bound: a piece takes as many goes at most.
@@ -364,6 +420,7 @@ mod tests {
             LedgerOpen,
             LedgerSend,
             LedgerReply,
+            Replay,
         ];
         for (call, (name, must)) in calls.into_iter().zip(CALLS) {
             let mut seen = Seen::default();

@@ -1,7 +1,7 @@
 //! The calls as every check makes them: behind each, what was lent for reading alone is as it was.
 
 use super::lent::{Buffer, Place};
-use crate::calls::Calls;
+use crate::calls::{Calls, Way};
 use eoswynnor::ffi;
 
 /// The number, or what was changed that may only be read.
@@ -114,5 +114,9 @@ impl<C: Calls> Watched<C> {
 
     pub fn ledger_reply(&self, ledger: &mut Place<ffi::Ledger>, xid: u32, grant: u32) -> u32 {
         self.0.ledger_reply(ledger.lent(), xid, grant)
+    }
+
+    pub fn replay(&self, blocks: &[&[u8]], way: Way) -> Result<Vec<u8>, String> {
+        self.0.replay(blocks, way)
     }
 }
