@@ -1,15 +1,15 @@
 -- The sums over a list of any frames.
 -- Assumes nothing.
 use mathlib.Core.Path.{_≡_, refl, sym, ap, _∙_}
-use mathlib.Core.Bool.{Bool, true, false, cond, _&&_}
-use mathlib.Core.List.{List, [], _∷_, _++_, map, append-assoc, append-nil}
+use mathlib.Core.Bool.{Bool, true, false, cond}
+use mathlib.Core.List.{List, [], _∷_, _++_, map, append-assoc}
 use mathlib.Core.Option.{Option, none, some}
-use Prim.Native.Nat.{ℕ, zero, suc, _+_, _*_, _/_, _%_, _≤_, _<_}
+use Prim.Native.Nat.{ℕ, suc, _+_, _*_, _/_, _%_, _≤_, _<_}
 use native.Mathlib.Omega.{arith}
 use borrow.Author.Tests.{le-leb, lt-ltb, ltb-true, ltb-false, eqb-false}
 use lib.ListN.{length, length-append}
 use lib.Seq.{take-all}
-use lib.Dec.{ltb, leb, eqb}
+use lib.Dec.{ltb, eqb}
 use Rattle.answers.proofs.Checks.{both-hold}
 use Rattle.wire.specs.Wire.{joined}
 use Rattle.wire.specs.Fits.{All}
@@ -19,8 +19,8 @@ use Rattle.trace_line.proofs.Digits.{in-digits, in-lower, no-newline}
 use Rattle.trace_text.specs.Verdict.{answer, payload}
 use Rattle.trace_text.specs.Text.{heading, sumsText}
 use Rattle.trace_text.proofs.Verdicts.{payload-most, refused-none}
-use Rattle.trace.specs.Report.{begins, linesOf, numbered, sumOver, isAccepted, isRefused, isBad, payloadIn, sumsOf, maxLines, reportOn, report}
-use Rattle.trace.specs.Frames.{hexDigit, hexLine, traceOf, FitsLine, Reported, AnyFrames, CountedOnce}
+use Rattle.trace.specs.Report.{linesOf, numbered, sumOver, isAccepted, isRefused, isBad, payloadIn, sumsOf, maxLines, reportOn, report}
+use Rattle.trace.specs.Frames.{hexDigit, hexLine, traceOf, FitsLine, AnyFrames, CountedOnce}
 
 -- A digit that was written is read back.
 digit-back : (n : ℕ) → n < 16 → valueOf (hexDigit n) ≡ n

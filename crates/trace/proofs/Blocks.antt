@@ -4,25 +4,23 @@ use mathlib.Core.Path.{_≡_, refl, sym, ap, _∙_}
 use mathlib.Core.Bool.{Bool, true, false, cond}
 use mathlib.Core.List.{List, [], _∷_, _++_, append-nil}
 use Prim.Native.Nat.{ℕ, zero, suc, _+_, _-_, _*_, _^_, _≤_, _<_}
-use native.Mathlib.Nat.{zero-add, add-zero}
+use native.Mathlib.Nat.{zero-add}
 use native.Mathlib.Omega.{arith}
 use borrow.Author.Tests.{le-leb, lt-leb, leb-false}
-use lib.ListN.{length, take, drop, length-drop, length-append, drop-of-length-le}
+use lib.ListN.{length, take, drop, length-drop, length-append}
 use lib.Seq.{take-add, drop-drop}
-use lib.Dec.{leb}
 use Rattle.wire.specs.Wire.{stored}
 use Rattle.wire.proofs.Fields.{part-from, then, length-stored}
 use Rattle.trace_line.specs.Line.{newline, isBegun}
 use Rattle.trace_text.specs.Text.{sumsText}
-use Rattle.trace_text.specs.declared.Sums.{Sums}
 use Rattle.trace_text.proofs.Texts.{behind, sums-short}
-use Rattle.trace.specs.Report.{maxLines, lineText}
+use Rattle.trace.specs.Report.{maxLines}
 use Rattle.trace.specs.Feeding.{Reading, plus, isFull, ending, endingText, hasLastLine, maxLineBytes, endsLine, next, reads, taken, begun, feedUsed, feedReading, feedAnswer, feedBuffer, finishText}
 use Rattle.trace.specs.Internal.Turns.{Turns}
 use Rattle.trace.specs.declared.TraceState.{TraceState}
 use Rattle.trace.specs.declared.FeedAnswer.{FeedAnswer}
 use Rattle.trace.specs.declared.Turn.{Turn}
-use Rattle.trace.proofs.Replayed.{reads-append, before, reads-before}
+use Rattle.trace.proofs.Replayed.{reads-append, before, reads-before, whole}
 use Rattle.trace.proofs.Streaming.{next-other}
 use Rattle.trace.proofs.Ends.{not-full}
 
@@ -49,9 +47,6 @@ none-left : (room : ℕ) (s : List ℕ) (r : Reading) → length s ≡ 0 → tak
 unfolding taken
 none-left room [] r h = refl
 none-left room (b ∷ s) r h = absurd (omega arith)
-
-whole : (r : Reading) → r ≡ before (r .text) (begun (r .state) (r .frame))
-whole r = rw (append-nil (r .text))
 
 -- What i bytes of a block give.
 abbrev pub after : TraceState → List ℕ → List ℕ → ℕ → Reading

@@ -2,13 +2,12 @@
 -- Assumes nothing.
 use mathlib.Core.Path.{_≡_, refl, sym, ap, _∙_}
 use mathlib.Core.Bool.{Bool, true, false, cond, not}
-use mathlib.Core.List.{List, _++_, append-nil}
+use mathlib.Core.List.{List, append-nil}
 use mathlib.Core.Option.{Option, none, some}
 use Prim.Native.Nat.{ℕ, _+_, _%_, _^_, _≤_, _<_}
-use native.Mathlib.Nat.{add-zero}
 use native.Mathlib.Omega.{arith}
 use borrow.Author.Tests.{le-leb, lt-leb, eq-eqb, ne-eqb}
-use lib.ListN.{length, drop, drop-of-length-le}
+use lib.ListN.{length, drop-of-length-le}
 use lib.Dec.{leb, eqb}
 use Rattle.wire.specs.Wire.{stored}
 use Rattle.wire.proofs.Fields.{stored-front}
@@ -22,7 +21,7 @@ use Rattle.trace_text.specs.declared.Sums.{Sums}
 use Rattle.trace_text.specs.declared.Verdict.{Verdict}
 use Rattle.trace_text.proofs.Texts.{heading-length, verdict-short, bad-short}
 use Rattle.trace.specs.Report.{maxLines, lineText}
-use Rattle.trace.specs.Feeding.{plus, isFull, hasLastLine}
+use Rattle.trace.specs.Feeding.{plus, hasLastLine}
 use Rattle.trace.specs.Internal.Turns.{endedAs, plusVerdict}
 use Rattle.trace.specs.declared.TraceState.{TraceState}
 use Rattle.trace.specs.declared.Ended.{Ended}

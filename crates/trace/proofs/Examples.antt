@@ -2,7 +2,7 @@
 -- Assumes nothing.
 use Prim.Native.Nat.{ℕ, _%_, _≤_, _<_}
 use mathlib.Core.Path.{_≡_, refl}
-use mathlib.Core.Bool.{Bool, true, false, and-false}
+use mathlib.Core.Bool.{and-false}
 use mathlib.Core.List.{List, map}
 use native.Mathlib.Omega.{arith}
 use borrow.Author.Tests.{le-leb, lt-leb}
@@ -18,7 +18,7 @@ use Rattle.trace_line.specs.Line.{valueOf, allDigits, bytesOf, frameOf}
 use Rattle.trace_text.specs.Verdict.{answer, payload, replyTo, verdictOf}
 use Rattle.trace_text.specs.Text.{ascii, digits, decimal, heading, replyText, verdictText, badText, sumsText, tooLong}
 use Rattle.trace.specs.Report.{linesOf, lineText, numbered, sumOver, maxLines, reportOn, report}
-use Rattle.trace.specs.Examples.{theExample, noLine, emptyLine, lastLine, badLines, replies, digitBytes, Examples, DigitLimit, LineLimit}
+use Rattle.trace.specs.Examples.{Examples, DigitLimit, LineLimit}
 
 pub examples : Examples
 unfolding Examples All report reportOn linesOf lineText numbered sumOver maxLines valueOf allDigits bytesOf frameOf answer payload replyTo verdictOf ascii digits decimal heading replyText verdictText badText sumsText tooLong readFrame byProcedure threeParts errorBody readList writeList replyChunk markerOf wordOf wordAt replyKindOf replyKindFor

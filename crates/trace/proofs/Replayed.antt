@@ -5,7 +5,6 @@ use mathlib.Core.Bool.{Bool, true, false, cond}
 use mathlib.Core.Logic.{_⊎_, inl, inr}
 use mathlib.Core.List.{List, [], _∷_, _++_, append-assoc, append-nil}
 use Prim.Native.Nat.{ℕ, suc, _+_, _<_}
-use native.Mathlib.Omega.{arith}
 use borrow.Author.Tests.{leb-false}
 use lib.ListN.{length, take}
 use lib.Dec.{leb, eqb}
@@ -43,6 +42,10 @@ unfolding reads
 reads-before [] t r = refl
 reads-before (b ∷ s) t r = ap (λ (x : Reading). reads x s) (next-before t r b) ∙ reads-before s t (next r b)
 
+-- A reading is what was written before a block that has just begun.
+pub whole : (r : Reading) → r ≡ before (r .text) (begun (r .state) (r .frame))
+whole r = rw (append-nil (r .text))
+
 -- The calls give what reading byte by byte gives.
 written-is : (s : TraceState) (frame : List ℕ) (fs : List Feed) → writtenBy s frame fs ≡ outOf (begun s frame) (takenBy s frame fs)
 unfolding writtenBy takenBy reads feedReading
@@ -57,9 +60,6 @@ written-is s frame (f ∷ fs) =
     ap (λ (t : List ℕ). r .text ++ t) (written-is (r .state) (r .frame) fs)
     ∙ sym (append-assoc (r .text) (reads (begun (r .state) (r .frame)) rest .text) _)
     ∙ ap (λ (x : Reading). x .text ++ finishText (x .state) (x .frame)) (sym is)
-  where
-    whole : (r : Reading) → r ≡ before (r .text) (begun (r .state) (r .frame))
-    whole r = rw (append-nil (r .text))
 
 pub replayed : Replayed
 unfolding Replayed

@@ -2,15 +2,15 @@
 -- Assumes nothing.
 use mathlib.Core.Path.{_≡_, refl, sym, ap, _∙_}
 use mathlib.Core.Bool.{Bool, true, false, cond}
-use mathlib.Core.List.{List, [], _∷_, _++_, map, append-assoc, append-nil}
+use mathlib.Core.List.{List, [], _∷_, _++_, append-assoc, append-nil}
 use mathlib.Core.Option.{Option, none, some}
-use Prim.Native.Nat.{ℕ, zero, suc, _+_, _-_, _*_, _%_, _^_, _≤_, _<_}
+use Prim.Native.Nat.{ℕ, _+_, _-_, _*_, _%_, _^_, _≤_, _<_}
 use native.Mathlib.Nat.{add-zero, zero-add}
 use native.Mathlib.Omega.{arith}
 use borrow.Author.Tests.{le-leb, lt-leb, leb-true, leb-false}
-use lib.ListN.{length, take, length-append}
+use lib.ListN.{length, length-append}
 use lib.Dec.{leb, eqb}
-use Rattle.trace_line.specs.Line.{newline, frameOf, nextLine, nextFrame, frameIn, isBegun}
+use Rattle.trace_line.specs.Line.{newline, frameOf, isBegun}
 use Rattle.trace_line.specs.Internal.Taking.{lineAfter, frameAfter}
 use Rattle.trace_line.specs.declared.Line.the-variants.{Digits}
 use Rattle.trace_line.proofs.Parts.{line-append, frame-append, frame-length}
@@ -21,7 +21,7 @@ use Rattle.trace_text.specs.declared.Sums.{Sums}
 use Rattle.trace_text.proofs.Verdicts.{payload-most}
 use Rattle.trace.specs.Report.{begins, linesOf, lineText, sumOver, isAccepted, isRefused, isBad, payloadIn, sumsOf, maxLines, report}
 use Rattle.trace.specs.Feeding.{Reading, startState, plus, isFull, ending, endingText, stops, endsLine, goesOn, next, reads, begun, finishText}
-use Rattle.trace.proofs.Remaining.{remaining, report-remaining, remaining-end, remaining-line, remaining-full, behind, behind-byte, behind-newline, behind-end, Begun, one-line}
+use Rattle.trace.proofs.Remaining.{remaining, report-remaining, remaining-end, remaining-line, remaining-full, behind, behind-byte, behind-newline, behind-end, one-line}
 
 -- One sum behind another.
 sum-append : {A : Type 0} (f : A → ℕ) (x y : List A) → sumOver f (x ++ y) ≡ sumOver f x + sumOver f y

@@ -2,8 +2,7 @@
 -- Assumes nothing.
 use mathlib.Core.Path.{_≡_, refl, sym, ap, _∙_}
 use mathlib.Core.Bool.{Bool, true, false, cond}
-use mathlib.Core.List.{List, [], _∷_, _++_}
-use mathlib.Core.Option.{Option}
+use mathlib.Core.List.{List, [], _∷_}
 use Prim.Native.Nat.{ℕ, zero, suc, _+_, _≤_, _<_}
 use native.Mathlib.Nat.{add-zero}
 use native.Mathlib.Numerals.{add-one}
@@ -22,7 +21,7 @@ use Rattle.trace_text.specs.Text.{tooLong}
 use Rattle.trace_text.specs.declared.Sums.{Sums}
 use Rattle.trace_text.proofs.Texts.{too-long-length}
 use Rattle.trace.specs.Report.{maxLines, lineText}
-use Rattle.trace.specs.Feeding.{Reading, plus, isFull, stops, endsLine, goesOn, next, reads, begun}
+use Rattle.trace.specs.Feeding.{Reading, stops, endsLine, goesOn, next, reads, begun}
 use Rattle.trace.specs.Internal.Turns.{endedAs, Turns}
 use Rattle.trace.specs.declared.TraceState.{TraceState}
 use Rattle.trace.specs.declared.Ended.{Ended}

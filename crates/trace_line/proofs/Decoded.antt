@@ -1,24 +1,23 @@
 -- A line that was taken byte by byte is its frame, or bad, as its text says.
 -- Assumes nothing.
-use mathlib.Core.Path.{_≡_, refl, sym, ap, _∙_}
+use mathlib.Core.Path.{_≡_, refl}
 use mathlib.Core.Bool.{Bool, true, false, cond, _&&_, and-false}
-use mathlib.Core.List.{List, [], _∷_, _++_}
-use mathlib.Core.Option.{Option, none, some}
-use Prim.Native.Nat.{ℕ, zero, suc, _+_, _*_, _/_, _%_, _≤_, _<_}
+use mathlib.Core.List.{List, [], _∷_}
+use mathlib.Core.Option.{none, some}
+use Prim.Native.Nat.{ℕ, suc, _+_, _*_, _/_, _%_, _≤_, _<_}
 use native.Mathlib.Nat.{add-zero, zero-add}
 use native.Mathlib.Omega.{arith}
-use borrow.Author.Tests.{lt-ltb, le-ltb, le-leb, lt-leb, ltb-true, ltb-false, leb-true, eqb-true, ne-eqb}
+use borrow.Author.Tests.{le-leb, lt-leb, ltb-true, ltb-false, leb-true, eqb-true, ne-eqb}
 use lib.ListN.{length, take, drop, length-take}
 use lib.Seq.{take-at}
 use lib.Dec.{leb, ltb, eqb}
-use Rattle.wire.specs.Wire.{stored}
 use Rattle.wire.proofs.Fields.{stored-front}
-use Rattle.trace_line.specs.Line.{maxDigits, isDigit, allDigits, bytesOf, frameOf, nextLine, nextFrame, frameIn, isBegun}
+use Rattle.trace_line.specs.Line.{maxDigits, isDigit, allDigits, bytesOf, frameOf, nextLine, frameIn, isBegun}
 use Rattle.trace_line.specs.Internal.Taking.{lineAfter, frameAfter}
 use Rattle.trace_line.specs.declared.Line.{Line}
 use Rattle.trace_line.specs.declared.Line.the-variants.{Digits, Bad}
 use Rattle.trace_line.proofs.Digits.{bytes-length}
-use Rattle.trace_line.proofs.Parts.{digit-line, pairs-frame}
+use Rattle.trace_line.proofs.Parts.{pairs-frame}
 
 -- A bad line stays bad.
 still-bad : (l : List ℕ) → lineAfter Bad l ≡ Bad

@@ -9,9 +9,8 @@ use native.Mathlib.Omega.{arith}
 use borrow.Author.Tests.{lt-ltb, ltb-true, ltb-false, eqb-true, eqb-false, le-leb, lt-leb}
 use lib.ListN.{length, take, drop, getD, set, length-take}
 use lib.Seq.{take-suc, drop-cons, set-at, set-set, getD-set-same, getD-set-other}
-use lib.Dec.{ltb, eqb, leb}
-use Rattle.answers.proofs.Checks.{both-hold}
-use Rattle.trace_line.specs.Line.{newline, valueOf, isDigit, allDigits, bytesOf, withDigit, between}
+use lib.Dec.{eqb}
+use Rattle.trace_line.specs.Line.{newline, valueOf, isDigit, allDigits, bytesOf, withDigit}
 use Rattle.trace_line.specs.Internal.Taking.{tableValue, Values}
 
 -- What a character stands for, by the ranges that its code is in.

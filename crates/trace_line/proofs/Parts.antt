@@ -9,7 +9,7 @@ use native.Mathlib.Nat.{add-zero}
 use native.Mathlib.Omega.{arith}
 use borrow.Author.Tests.{lt-ltb, le-ltb, eqb-true, eq-eqb, ne-eqb}
 use lib.ListN.{length, take, drop, getD, set, length-take, length-drop, length-set, drop-of-length-le}
-use lib.Seq.{take-add, take-all, drop-cons, drop-drop, take-suc}
+use lib.Seq.{take-add, drop-cons, drop-drop, take-suc}
 use lib.Dec.{ltb, eqb}
 use Rattle.answers.proofs.Checks.{both-hold}
 use Rattle.wire.specs.Wire.{stored}

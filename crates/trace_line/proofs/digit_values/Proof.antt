@@ -8,9 +8,6 @@ use Rattle.trace_line.specs.Internal.Taking.{Values}
 use Rattle.trace_line.proofs.Digits.{values-next}
 use Rattle.trace_line.proofs.digit_values.Statement.{statement}
 use Rattle.trace_line.proofs.digit_values.Tie as tie
-use Rattle.trace_line.proofs.digit_values.Reads as reads
-use Rattle.trace_line.proofs.digit_values.Lts as lts
-use Rattle.trace_line.proofs.value_of.Reads as value-of-reads
 
 abbrev Inv-loop : tie.InvT-loop
 Inv-loop values₀ c₀ values c = (c ≤ 256) × (length values ≡ 256) × Values c values

@@ -1,17 +1,12 @@
 -- `trace_line::take_bytes` meets its contract.
 use mathlib.Core.Path.{_≡_, refl}
 use Prim.Native.Nat.{_-_}
-use native.Mathlib.Omega.{arith}
 use lib.ListN.{length}
-use denote.Ref.{now}
 use borrow.Author.Needs.{needs}
 use Rattle.trace_line.specs.Internal.Taking.{Takes}
 use Rattle.trace_line.proofs.Parts.{takes-none, takes-next, takes-all, line-stop, line-none}
 use Rattle.trace_line.proofs.take_bytes.Statement.{statement}
 use Rattle.trace_line.proofs.take_bytes.Tie as tie
-use Rattle.trace_line.proofs.take_bytes.Reads as reads
-use Rattle.trace_line.proofs.take_bytes.Lts as lts
-use Rattle.trace_line.proofs.take_byte.Reads as take-byte-reads
 
 abbrev Inv-loop : tie.InvT-loop
 Inv-loop values text frame₀ begun₀ i₀ frame begun i = (length frame ≡ 4_096) × Takes begun₀ text frame₀ (record { line = begun; used = i }) frame

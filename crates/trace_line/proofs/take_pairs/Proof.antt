@@ -1,6 +1,5 @@
 -- `trace_line::take_pairs` meets its contract.
 use mathlib.Core.Path.{refl, sym}
-use native.Mathlib.Omega.{arith}
 use denote.Ref.{now}
 use borrow.Author.Needs.{needs}
 use Rattle.trace_line.proofs.Parts.{takes-none, takes-pairs}
