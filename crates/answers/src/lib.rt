@@ -1,4 +1,6 @@
 // The answer numbers, each named once, in the table's order; and what every writer answers. Public: the numbers, WriteAnswer.
+#![tactic(auto)]
+
 ghost use Rattle.std.specs.Prelude.{◌≡◌};
 
 // "done"
@@ -56,7 +58,7 @@ pub const GRANT_ZERO: u32 = 25;
 pub const REPLY_MISMATCH: u32 = 26;
 
 // What a writer answers: its number, and with 0 how many bytes it wrote.
-#[derive(Drop)]
+#[derive(Clone, Copy)]
 pub struct WriteAnswer {
     pub number: u32,
     pub length: usize,

@@ -1,4 +1,6 @@
 // The pieces and the message of a reassembly, whose state is lent as words. Public: take_piece, message_number, message.
+#![tactic(auto)]
+
 ghost use Rattle.std.specs.Prelude.{◌≡◌, false, length};
 ghost use Rattle.chunk_lists.specs.Words.{reads_in};
 ghost use Rattle.assembly_state.specs.Words.{with_reads, state_in};
@@ -10,14 +12,14 @@ use layout::{ChunkCheck, LayoutCheck, ReadsCheck};
 
 // What a piece is answered with: the number, and how many goes it took to place it.
 #[repr(C)]
-#[derive(Drop)]
+#[derive(Clone, Copy)]
 pub struct PieceAnswer {
     pub number: u32,
     pub goes: u32,
 }
 
 // The count behind a piece, and its answer.
-#[derive(Drop)]
+#[derive(Clone, Copy)]
 pub struct PlacedPiece {
     pub taken: usize,
     pub number: u32,
@@ -25,14 +27,14 @@ pub struct PlacedPiece {
 }
 
 // How long the message is, and the number.
-#[derive(Drop)]
+#[derive(Clone, Copy)]
 pub struct MessageAnswer {
     pub length: usize,
     pub number: u32,
 }
 
 // What the checks of a state find.
-#[derive(Drop)]
+#[derive(Clone, Copy)]
 pub struct StateCheck {
     pub message: usize,
     pub pulled: usize,

@@ -1,4 +1,6 @@
 // The start of a reassembly. Public: start; start_into, which stores the state into lent words.
+#![tactic(auto)]
+
 ghost use Rattle.std.specs.Prelude.{◌≡◌, ◌+◌, ◌≤◌, length, take, drop};
 ghost use Rattle.chunk_lists.specs.Words.{reads_in};
 ghost use Rattle.reader.specs.Frame.{read_frame};
@@ -11,7 +13,7 @@ use layout::LayoutCheck;
 use reader::FrameCheck;
 
 // What a start makes: the words of the state to hand on, and the number.
-#[derive(Drop)]
+#[derive(Clone, Copy)]
 pub struct StartAnswer {
     pub state: [u32; 104],
     pub number: u32,

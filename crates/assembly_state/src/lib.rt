@@ -1,4 +1,6 @@
 // The state of a reassembly, as 104 words that a caller holds and lends.
+#![tactic(auto)]
+
 ghost use Rattle.std.specs.Prelude.{◌≡◌, ◌<◌};
 ghost use Rattle.wire.specs.Wire.{stored};
 ghost use Rattle.wire.specs.Words.{number_in, number_words};
@@ -19,7 +21,7 @@ pub const COUNT_AT: usize = TAKEN_AT + 2;
 pub const KIND_AT: usize = COUNT_AT + 1;
 
 // All of a state but its read segments.
-#[derive(Drop)]
+#[derive(Clone, Copy)]
 pub struct Parts {
     pub kind: Kind,
     pub count: u32,

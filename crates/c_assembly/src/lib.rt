@@ -1,4 +1,6 @@
 // The reassembly of a call, for C: the state is lent as words, and what a call makes is stored where the caller says.
+#![tactic(auto)]
+
 ghost use Rattle.std.specs.Prelude.{◌≡◌, length};
 ghost use Rattle.reader.specs.Frame.{read_frame};
 ghost use Rattle.assembly_start.specs.Start.{start_number, start_buffer, start_words};

@@ -1,4 +1,6 @@
 // The transport header, for C: it is lent as words, and what a call makes is stored where the caller says.
+#![tactic(auto)]
+
 ghost use Rattle.std.specs.Prelude.{◌≡◌, length};
 ghost use Rattle.answers.specs.Answers.{unless_refused};
 ghost use Rattle.reader.specs.Frame.{read_frame, payload_of, read_number, read_words};
@@ -8,7 +10,7 @@ ghost use Rattle.c_header.specs.Part.{part_of};
 
 // A part of a lent buffer.
 #[repr(C)]
-#[derive(Drop)]
+#[derive(Clone, Copy)]
 pub struct Part {
     pub offset: usize,
     pub length: usize,

@@ -1,4 +1,6 @@
 // The ledger of credits, for C: it is lent by pointer and changed where it lies.
+#![tactic(auto)]
+
 ghost use Rattle.std.specs.Prelude.{◌≡◌};
 ghost use Rattle.ledger.specs.Ledger.{open_answer, send_answer, send_ledger, reply_number, reply_ledger};
 

@@ -1,4 +1,6 @@
 // Credits and error replies, for C: what a call makes is stored where the caller says.
+#![tactic(auto)]
+
 ghost use Rattle.std.specs.Prelude.{◌≡◌, length};
 ghost use Rattle.answers.specs.Answers.{unless_refused};
 ghost use Rattle.credit.specs.Credit.{grant_answer};

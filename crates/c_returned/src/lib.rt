@@ -1,4 +1,6 @@
 // What a reply says was filled, for C: the headers are lent as words, and the numbers are stored where the caller says.
+#![tactic(auto)]
+
 ghost use Rattle.std.specs.Prelude.{◌≡◌};
 ghost use Rattle.header.specs.Words.{header_in};
 ghost use Rattle.returned.specs.Returned.{returned_words_number, returned_words_places};

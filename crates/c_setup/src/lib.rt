@@ -1,4 +1,6 @@
 // The connection setup data, for C: each side's and what follows from two are lent as words.
+#![tactic(auto)]
+
 ghost use Rattle.std.specs.Prelude.{◌≡◌, length};
 ghost use Rattle.answers.specs.Answers.{unless_refused};
 ghost use Rattle.setup.specs.Setup.{read_setup};

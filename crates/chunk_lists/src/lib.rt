@@ -1,5 +1,7 @@
 // The read list, the write list and the reply chunk of a transport header. A list is checked by a function that calls
 // itself on the rest and answers little; what it found is then read in one go. Internal to the library.
+#![tactic(auto)]
+
 ghost use Rattle.std.specs.Prelude.{◌≡◌, ◌+◌, ◌*◌, ◌-◌, ◌/◌, ◌≤◌, ◌<◌, length, drop, get_or};
 ghost use Rattle.wire.specs.Wire.{segment_at, stored, joined, zero_read_segment};
 ghost use Rattle.chunk_lists.specs.Parsed.{each};
@@ -31,21 +33,21 @@ const REFUSED: usize = 256;
 // What a chunk counts for in such an answer, where each of its segments counts for 1.
 const CHUNK_UNIT: usize = 32;
 
-#[derive(Drop)]
+#[derive(Clone, Copy)]
 pub struct ReadList {
     pub segments: [ReadSegment; 16],
     pub count: u32,
 }
 
 // The segments of all chunks lie one behind the other; `counts` tells how many each chunk has.
-#[derive(Drop)]
+#[derive(Clone, Copy)]
 pub struct WriteList {
     pub segments: [Segment; 16],
     pub counts: [u32; 4],
     pub chunks: u32,
 }
 
-#[derive(Drop)]
+#[derive(Clone, Copy)]
 pub struct ReplyChunk {
     pub segments: [Segment; 16],
     pub count: u32,
@@ -53,7 +55,7 @@ pub struct ReplyChunk {
 }
 
 // What a marker word says: the end of a list, one more entry, or a fault.
-#[derive(Drop)]
+#[derive(Clone, Copy)]
 pub enum Marker {
     End,
     Entry,
@@ -61,7 +63,7 @@ pub enum Marker {
 }
 
 // What stands at the front of a read list.
-#[derive(Drop)]
+#[derive(Clone, Copy)]
 pub enum ReadStep {
     End,
     Entry,
@@ -69,7 +71,7 @@ pub enum ReadStep {
 }
 
 // What stands at the front of a list of chunks; of a chunk, its number of segments.
-#[derive(Drop)]
+#[derive(Clone, Copy)]
 pub enum ChunkStep {
     End,
     Chunk(usize),
@@ -77,7 +79,7 @@ pub enum ChunkStep {
 }
 
 // A list that was checked: how many entries it has, and how many bytes are left behind it.
-#[derive(Drop)]
+#[derive(Clone, Copy)]
 pub enum ListCheck {
     Done(usize, usize),
     Refused(u32),

@@ -1,4 +1,6 @@
 // The copying leaf: bytes into a part of a buffer, by moves of whole blocks. Internal to the library.
+#![tactic(auto)]
+
 ghost use Rattle.std.specs.Prelude.{◌≡◌, ◌++◌, ◌+◌, ◌≤◌, length, drop, replicate};
 ghost use Rattle.wire.specs.Wire.{stored};
 

@@ -1,8 +1,10 @@
 // The credits to grant. Public: GrantAnswer, grant.
+#![tactic(auto)]
+
 ghost use Rattle.std.specs.Prelude.{◌≡◌, ◌≤◌};
 ghost use Rattle.credit.specs.Credit.{granted, grant_answer};
 
-#[derive(Drop)]
+#[derive(Clone, Copy)]
 pub struct GrantAnswer {
     pub credit: u32,
     pub number: u32,

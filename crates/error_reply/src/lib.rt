@@ -1,4 +1,6 @@
 // The error reply to a frame. Public: error_reply.
+#![tactic(auto)]
+
 ghost use Rattle.std.specs.Prelude.{◌≡◌, ◌∷◌, [], ◌≤◌, length};
 ghost use Rattle.wire.specs.Wire.{word_at, stored, word_bytes, words};
 ghost use Rattle.error_reply.specs.Reply.{reply_kind_of, reply_kind_for, reply_words, error_reply_answer, error_reply_buffer};
@@ -7,7 +9,7 @@ ghost use Rattle.error_reply.specs.Internal.Length.{reply_length};
 use answers::WriteAnswer;
 
 // What is answered to a frame.
-#[derive(Drop)]
+#[derive(Clone, Copy)]
 pub enum ReplyKind {
     None,
     Version,

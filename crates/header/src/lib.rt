@@ -1,4 +1,6 @@
 // The transport header of RPC-over-RDMA version 1: what it holds, and the words that hold it. Public: Header and its parts.
+#![tactic(auto)]
+
 ghost use Rattle.std.specs.Prelude.{◌≡◌, List, ℕ, length, take};
 ghost use Rattle.std.proofs.Math.Option.{some};
 ghost use Rattle.header.specs.Limits.{total, within_limits};
@@ -49,14 +51,14 @@ pub const VERSION_ERROR_BYTES: usize = HIGH_AT + wire::WORD_BYTES;
 pub const CHUNK_ERROR_BYTES: usize = CODE_AT + wire::WORD_BYTES;
 
 // "Version(low, high) or Chunk"
-#[derive(Drop)]
+#[derive(Clone, Copy)]
 pub enum ErrorKind {
     Version(u32, u32),
     Chunk,
 }
 
 // "The kind of header that a reader gets holds, for ERROR, which of the two it is, with its numbers."
-#[derive(Drop)]
+#[derive(Clone, Copy)]
 pub enum Kind {
     Msg,
     Nomsg,
@@ -64,13 +66,13 @@ pub enum Kind {
 }
 
 // A kind that a number names, or none.
-#[derive(Drop)]
+#[derive(Clone, Copy)]
 pub enum Known {
     Is(Kind),
     No,
 }
 
-#[derive(Drop)]
+#[derive(Clone, Copy)]
 pub struct Header {
     pub reads: ReadList,
     pub writes: WriteList,

@@ -1,5 +1,7 @@
 // Where each byte of a message goes: the chunks of a read list, and the checks on them.
 // Internal to the library.
+#![tactic(auto)]
+
 ghost use Rattle.std.specs.Prelude.{◌≡◌, true, List, ◌+◌, ◌-◌, ◌≤◌, ◌<◌, length, take};
 ghost use Rattle.wire.specs.declared.ReadSegment.{ReadSegment};
 ghost use Rattle.read_order.specs.ReadOrder.{is_sorted};
@@ -18,14 +20,14 @@ pub const MAX_MESSAGE_BYTES: usize = 1048576;
 pub const UNIT_BYTES: usize = 4;
 
 // A run of places: where it begins, and how many they are. A chunk is one, at its position.
-#[derive(Drop)]
+#[derive(Clone, Copy)]
 pub struct Run {
     pub at: usize,
     pub length: usize,
 }
 
 // What the segments of a read list make together: the bytes at position 0, whether any segment stands there, and all bytes.
-#[derive(Drop)]
+#[derive(Clone, Copy)]
 pub struct Sums {
     pub zero_length: usize,
     pub any_zero: bool,
@@ -33,28 +35,28 @@ pub struct Sums {
 }
 
 // The chunks stand, and their rounded lengths make so much together; or one of them does not.
-#[derive(Drop)]
+#[derive(Clone, Copy)]
 pub enum ChunkCheck {
     Stands(usize),
     Overlaps,
 }
 
 // What one walk over a read list finds: its sums, and the rounded lengths of its chunks together.
-#[derive(Drop)]
+#[derive(Clone, Copy)]
 pub struct ReadsFound {
     pub sums: Sums,
     pub chunks: usize,
 }
 
 // A read list is sorted, its positions are multiples of 4 and its chunks stand; or not.
-#[derive(Drop)]
+#[derive(Clone, Copy)]
 pub enum ReadsCheck {
     Fine(ReadsFound),
     Faulty,
 }
 
 // The length of a message that passes the checks of a start, or the number of the one that it does not pass.
-#[derive(Drop)]
+#[derive(Clone, Copy)]
 pub enum LayoutCheck {
     Holds(usize),
     Refused(u32),

@@ -1,5 +1,7 @@
 // A ledger of credits: the calls in flight, the grant, the last xid given. Public: MAX_IN_FLIGHT, Ledger, OpenAnswer, open_ledger,
 // SendAnswer, send, reply.
+#![tactic(auto)]
+
 ghost use Rattle.std.specs.Prelude.{◌≡◌, ℕ, ◌+◌, ◌<◌, ◌≤◌, ◌&&◌, ◌||◌, [], ◌∷◌, ◌++◌, length, take, drop, ◌==◌, nat_lt};
 ghost use Rattle.ledger.specs.Ledger.{padded, is_in, any_twice, unfit, max_in_flight, xid_after, first_free, xids_behind, run_length, open_answer, send_answer, send_ledger, reply_number, reply_ledger};
 ghost use Rattle.ledger.specs.Internal.Search.{rising, place_of};
@@ -9,7 +11,7 @@ pub const MAX_IN_FLIGHT: usize = 32;
 
 // The xids of the calls in flight in sending order, how many they are, the grant, and the last xid given.
 #[repr(C)]
-#[derive(Drop)]
+#[derive(Clone, Copy)]
 pub struct Ledger {
     pub xids: [u32; 32],
     pub count: u32,
@@ -17,7 +19,7 @@ pub struct Ledger {
     pub last: u32,
 }
 
-#[derive(Drop)]
+#[derive(Clone, Copy)]
 pub struct OpenAnswer {
     pub ledger: Ledger,
     pub number: u32,
@@ -25,7 +27,7 @@ pub struct OpenAnswer {
 
 // What a send is answered with: the number, and with 0 the xid of the call and how many xids were passed over.
 #[repr(C)]
-#[derive(Drop)]
+#[derive(Clone, Copy)]
 pub struct SendAnswer {
     pub number: u32,
     pub xid: u32,
@@ -33,21 +35,21 @@ pub struct SendAnswer {
 }
 
 // What the search for an xid finds, and how many xids it passed over.
-#[derive(Drop)]
+#[derive(Clone, Copy)]
 pub struct FoundXid {
     pub xid: u32,
     pub passed: u32,
 }
 
 // A send by value: the ledger after it, and its answer.
-#[derive(Drop)]
+#[derive(Clone, Copy)]
 pub struct SendStep {
     pub ledger: Ledger,
     pub answer: SendAnswer,
 }
 
 // A reply by value: the ledger after it, and its number.
-#[derive(Drop)]
+#[derive(Clone, Copy)]
 pub struct ReplyStep {
     pub ledger: Ledger,
     pub number: u32,

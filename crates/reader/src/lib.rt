@@ -1,4 +1,6 @@
 // The transport header of a frame, read. Public: read_header, payload; decode_header, which reads into lent words.
+#![tactic(auto)]
+
 ghost use Rattle.std.specs.Prelude.{◌≡◌, ℕ, ◌≤◌, cond, List, length, drop, eqb};
 ghost use Rattle.wire.specs.Wire.{word_at, stored};
 ghost use Rattle.chunk_lists.specs.Parsed.{done};
@@ -12,14 +14,14 @@ use chunk_lists::{ChunkStep, ListCheck};
 use header::{ErrorKind, Header, Kind};
 use wire::Word;
 
-#[derive(Drop)]
+#[derive(Clone, Copy)]
 pub struct ReadAnswer {
     pub header: Header,
     pub number: u32,
 }
 
 // A frame that was checked: how many entries its lists have, and where its header ends.
-#[derive(Drop)]
+#[derive(Clone, Copy)]
 pub struct Shape {
     pub kind: Kind,
     pub reads: usize,
@@ -29,7 +31,7 @@ pub struct Shape {
     pub end: usize,
 }
 
-#[derive(Drop)]
+#[derive(Clone, Copy)]
 pub enum FrameCheck {
     Found(Shape),
     Refused(u32),

@@ -1,11 +1,13 @@
 // Replays a trace: lines of hexadecimal from standard input, the report to standard output. Input that cannot be read, and output
 // that cannot be written, end the program with a line on standard error; the report then has no last line.
+#![tactic(auto)]
+
 ghost use Rattle.std.specs.Prelude.{◌≤◌, length};
 
 use trace::TraceState;
 
 // A replay after a block: its state, and whether the report goes on.
-#[derive(Drop)]
+#[derive(Clone, Copy)]
 pub struct Fed {
     pub state: TraceState,
     pub goes_on: bool,

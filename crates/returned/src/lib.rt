@@ -1,4 +1,6 @@
 // What a reply says was put into the chunks that a call offered. Public: returned; returned_words, of headers that are lent.
+#![tactic(auto)]
+
 ghost use Rattle.std.specs.Prelude.{◌≡◌, true, not, ◌&&◌, List, map, ◌+◌, ◌*◌, ◌≤◌, length, take, drop, get_or};
 ghost use Rattle.std.proofs.Math.Option.{none, some};
 ghost use Rattle.wire.specs.Wire.{stored};
@@ -16,7 +18,7 @@ use wire::Segment;
 const REPLY_LANDED_AT: usize = chunk_lists::MAX_WRITE_CHUNKS;
 
 // "the bytes landed in each write chunk and in the reply chunk"
-#[derive(Drop)]
+#[derive(Clone, Copy)]
 pub struct ReturnedAnswer {
     pub writes: [u64; 4],
     pub reply: u64,
@@ -24,7 +26,7 @@ pub struct ReturnedAnswer {
 }
 
 // A chunk that was compared: the bytes landed in it, or a fault.
-#[derive(Drop)]
+#[derive(Clone, Copy)]
 pub enum ChunkCheck {
     Landed(u64),
     Mismatch,

@@ -1,5 +1,7 @@
 // The connection setup data (CM Private Data) of RFC 8797, read and written, and what follows from two of them.
 // Public: Size and its ends, Setup, SetupAnswer, Agreement, read_setup, write_setup, agree.
+#![tactic(auto)]
+
 ghost use Rattle.std.specs.Prelude.{◌≡◌, true, ◌&&◌, ◌≤◌, length};
 ghost use Rattle.wire.specs.Wire.{stored};
 ghost use Rattle.setup.specs.Setup.{size_of, in_rule, size_byte, smaller_size, is_setup, read_setup, flags_of, setup_bytes, setup_in_rule, write_setup_answer, write_setup_buffer, no_agreement, agreement};
@@ -27,7 +29,7 @@ const RECEIVE_AT: usize = 7;
 const SETUP_BYTES: usize = 8;
 
 // The bytes that one message may have inline.
-#[derive(Drop)]
+#[derive(Clone, Copy)]
 pub struct Size(pub u32);
 
 impl Size {
@@ -78,14 +80,14 @@ impl Size {
 }
 
 // What one side says of itself: R, and how much it sends and receives inline.
-#[derive(Drop)]
+#[derive(Clone, Copy)]
 pub struct Setup {
     pub remote_invalidation: bool,
     pub send: Size,
     pub receive: Size,
 }
 
-#[derive(Drop)]
+#[derive(Clone, Copy)]
 pub struct SetupAnswer {
     pub setup: Setup,
     pub present: bool,
@@ -93,7 +95,7 @@ pub struct SetupAnswer {
 }
 
 // What holds between two sides: the inline threshold of each direction, and whether remote invalidation may be used.
-#[derive(Drop)]
+#[derive(Clone, Copy)]
 pub struct Agreement {
     pub client_to_server: Size,
     pub server_to_client: Size,

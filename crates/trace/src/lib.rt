@@ -1,4 +1,6 @@
 // A trace replayed: lines of hexadecimal in, a report out, in blocks of any size. Public: start, feed, finish.
+#![tactic(auto)]
+
 ghost use Rattle.std.specs.Prelude.{◌≡◌, ◌+◌, ◌*◌, ◌<◌, ◌≤◌, length};
 ghost use Rattle.std.proofs.Math.Option.{none};
 ghost use Rattle.wire.specs.Wire.{stored};
@@ -20,7 +22,7 @@ pub const MAX_LINE_BYTES: usize = 22;
 
 // A replay between two blocks: the sums over the lines that ended, the line that has begun, and whether the trace is too long.
 // The digits of that line are in the frame buffer.
-#[derive(Drop)]
+#[derive(Clone, Copy)]
 pub struct TraceState {
     pub sums: Sums,
     pub line: Line,
@@ -28,7 +30,7 @@ pub struct TraceState {
 }
 
 // A block that was fed: the state after it, how many of its bytes were taken, and how many bytes of the report were written.
-#[derive(Drop)]
+#[derive(Clone, Copy)]
 pub struct FeedAnswer {
     pub state: TraceState,
     pub used: usize,
@@ -36,14 +38,14 @@ pub struct FeedAnswer {
 }
 
 // A line that ended: the sums with it, and where its line of the report ends.
-#[derive(Drop)]
+#[derive(Clone, Copy)]
 pub struct Ended {
     pub sums: Sums,
     pub to: usize,
 }
 
 // A part of a block that was taken: the state after it, how many bytes it has, and where the report ends.
-#[derive(Drop)]
+#[derive(Clone, Copy)]
 pub struct Turn {
     pub state: TraceState,
     pub used: usize,

@@ -1,4 +1,6 @@
 // The line of a trace that has begun, decoded as its bytes come: digits into the bytes of a frame. Internal to the library.
+#![tactic(auto)]
+
 ghost use Rattle.std.specs.Prelude.{◌≡◌, ◌≤◌, ◌<◌, length, take};
 ghost use Rattle.trace_line.specs.Line.{next_line, next_frame, with_digit};
 ghost use Rattle.trace_line.specs.Internal.Taking.{table_value, Values, Takes, Pairs, line_length, line_after, frame_after};
@@ -12,14 +14,14 @@ pub const NEWLINE: u8 = 10;
 const NO_DIGIT: u8 = 63;
 
 // The line that has begun: how many digits of it are in the frame buffer, or that it is bad.
-#[derive(Drop)]
+#[derive(Clone, Copy)]
 pub enum Line {
     Digits(usize),
     Bad,
 }
 
 // A part of a line that was taken: the line with it, and how many bytes it has.
-#[derive(Drop)]
+#[derive(Clone, Copy)]
 pub struct Part {
     pub line: Line,
     pub used: usize,

@@ -1,4 +1,6 @@
 // A report's lines: what a frame of a trace gets, and the text of it. Internal to the library.
+#![tactic(auto)]
+
 ghost use Rattle.std.specs.Prelude.{◌≡◌, ◌++◌, ◌+◌, ◌≤◌, length};
 ghost use Rattle.wire.specs.Wire.{stored};
 ghost use Rattle.error_reply.specs.Reply.{reply_kind_for};
@@ -9,7 +11,7 @@ use error_reply::ReplyKind;
 use reader::FrameCheck;
 
 // What a frame gets: its answer number, the bytes of its payload, the reply.
-#[derive(Drop)]
+#[derive(Clone, Copy)]
 pub struct Verdict {
     pub answer: u32,
     pub payload: usize,
@@ -17,7 +19,7 @@ pub struct Verdict {
 }
 
 // The sums over the lines that ended.
-#[derive(Drop)]
+#[derive(Clone, Copy)]
 pub struct Sums {
     pub lines: u64,
     pub accepted: u64,

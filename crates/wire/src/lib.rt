@@ -1,4 +1,6 @@
 // Words and segments, of which every part of a transport header is made, read from a frame and written into a buffer. The types are public, the calls internal to the library: they ask that the bytes are there.
+#![tactic(auto)]
+
 ghost use Rattle.std.specs.Prelude.{◌≡◌, ◌+◌, ◌*◌, ◌≤◌, min, length, drop};
 ghost use Rattle.wire.specs.Words.{join_words, flag_number, segment_in, segment_words, read_segment_in, read_segment_words};
 ghost use Rattle.wire.specs.Wire.{join_bytes, word_at, word_of, segment_at, read_segment_at, stored, word_bytes};
@@ -37,7 +39,7 @@ pub const READ_SEGMENT_WORDS: usize = TARGET_AT + SEGMENT_WORDS;
 pub const FLAG_SET: u32 = 1;
 
 // Memory that the other side registered.
-#[derive(Drop)]
+#[derive(Clone, Copy)]
 pub struct Segment {
     pub handle: u32,
     pub length: u32,
@@ -45,14 +47,14 @@ pub struct Segment {
 }
 
 // A segment to be pulled, and where in the message its bytes go.
-#[derive(Drop)]
+#[derive(Clone, Copy)]
 pub struct ReadSegment {
     pub position: u32,
     pub target: Segment,
 }
 
 // A word that is asked for: its value, or the number of the refusal.
-#[derive(Drop)]
+#[derive(Clone, Copy)]
 pub enum Word {
     Value(u32),
     Refused(u32),

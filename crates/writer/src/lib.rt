@@ -1,4 +1,6 @@
 // The transport header, written into a lent buffer. Public: write_header; write_words, which writes from lent words.
+#![tactic(auto)]
+
 ghost use Rattle.std.specs.Prelude.{◌≡◌, true, cond, List, ℕ, ◌+◌, ◌*◌, ◌≤◌, length, take, drop, get_or};
 ghost use Rattle.answers.specs.Answers.{unless_refused};
 ghost use Rattle.wire.specs.Wire.{stored, joined, segment_bytes};
