@@ -15,7 +15,7 @@ use Rattle.assembly.specs.Assembly.{reads_of, chunks_of, pulled_of, can_arise}
 
 pub record Arises (s : State) : Type 0 where
   pub few : s.reads.count ≤ 16
-  pub in_order_lem : is_sorted (reads_of s) ≡ true
+  pub in_order : is_sorted (reads_of s) ≡ true
   pub aligned : all_aligned (reads_of s) ≡ true
   pub placed : place_number s.kind (any_at_zero (reads_of s)) s.base (chunks_of s) s.buffer ≡ 0
   pub based : base_length s.kind s.base (reads_of s) ≡ s.base
@@ -29,4 +29,4 @@ arises s e =
     let c = both_hold (all_aligned (reads_of s)) _ b.1 in
     let d = both_hold (eqb (place_number s.kind (any_at_zero (reads_of s)) s.base (chunks_of s) s.buffer) 0) _ c.1 in
     let f = both_hold (eqb (base_length s.kind s.base (reads_of s)) s.base) _ d.1 in
-    record { few = leb-true _ _ a.0; in_order_lem = b.0; aligned = c.0; placed = eqb-true _ _ d.0; based = eqb-true _ _ f.0; taken = leb-true _ _ f.1 }
+    record { few = leb-true _ _ a.0; in_order = b.0; aligned = c.0; placed = eqb-true _ _ d.0; based = eqb-true _ _ f.0; taken = leb-true _ _ f.1 }

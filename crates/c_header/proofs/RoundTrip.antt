@@ -67,7 +67,7 @@ held w f long kind present k = record {
   counts_length = length-take-le 4 (drop 224 w) (rw length-drop (omega arith));
   counts = some_words 4 (drop 224 w) (words_behind w 224 f);
   chunks = f 229;
-  reply_length_lem = length_segments 160 w;
+  reply_length = length_segments 160 w;
   reply_segments = segments_fit 160 w f;
   reply_count = f 231;
 }

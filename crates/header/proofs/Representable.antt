@@ -80,7 +80,7 @@ allowed_representable c a =
       counts_length = length_padded 4 0 (map length c.writes) (simp length-map a.chunks_limit);
       counts = all_padded Word32 4 0 (map length c.writes) (omega arith) (lengths_fit c.writes a.writes_limit);
       chunks = omega (arith, a.chunks_limit);
-      reply_length_lem = reply.0;
+      reply_length = reply.0;
       reply_segments = reply.1;
       reply_count = reply.2;
     }

@@ -20,7 +20,7 @@ use Rattle.wire.specs.contracts.Segment as segment
 use Rattle.wire.specs.contracts.ReadSegment as read-segment
 use Rattle.chunk_lists.specs.contracts.ReadList as read-list
 use Rattle.chunk_lists.specs.contracts.WriteList as write-list
-use Rattle.chunk_lists.specs.contracts.ReplyChunk as reply_chunk_lem
+use Rattle.chunk_lists.specs.contracts.ReplyChunk as reply_chunk
 use Rattle.wire.specs.Words.{flag_number}
 use Rattle.chunk_lists.specs.Words.{reads_in, reads_words, segments_in, segments_words}
 use Rattle.chunk_lists.proofs.Words.{length_reads_words, length_segments_words, reads_back, segments_back}

@@ -36,7 +36,7 @@ pub record Representable (h : Header) : Type 0 where
   pub counts_length : length h.writes.counts ≡ 4
   pub counts : All Word32 h.writes.counts
   pub chunks : Word32 h.writes.chunks
-  pub reply_length_lem : length h.reply.segments ≡ 16
+  pub reply_length : length h.reply.segments ≡ 16
   pub reply_segments : All SegmentFits h.reply.segments
   pub reply_count : Word32 h.reply.count
 

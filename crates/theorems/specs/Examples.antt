@@ -58,7 +58,7 @@ pub data Example : Type 0 where
   -- writing a header into a buffer of so many bytes is refused with this number
   header_gives : Header → ℕ → ℕ → Example
   -- a header's words have these values at these places
-  header_words_lem : Header → List (ℕ × ℕ) → Example
+  words_of_header : Header → List (ℕ × ℕ) → Example
   -- writing setup data into a buffer of so many bytes is refused with this number
   setup_gives : Setup → ℕ → ℕ → Example
   -- what holds between two sides, and the words that hold it
@@ -70,7 +70,7 @@ pub data Example : Type 0 where
   -- reading the error reply to a frame, for a number and a limit, gives this
   reply_reads : List ℕ → ℕ → ℕ → ReadAnswer → Example
   -- the words that a start makes over a frame and a buffer of so many bytes have these values at these places
-  start_words_lem : List ℕ → ℕ → List (ℕ × ℕ) → Example
+  words_of_start : List ℕ → ℕ → List (ℕ × ℕ) → Example
   -- a piece of so many bytes, for a state that lies in these words and a buffer of so many bytes, gives this number
   piece_gives : List ℕ → ℕ → ℕ → ℕ → Example
   -- a piece of no bytes, and asking for the message, for such a state give these numbers
@@ -115,13 +115,13 @@ Holds (grant_gives asked limit number) = grant_answer asked limit ≡ record { c
 Holds (header_writes h bytes) =
     (write_answer h (length bytes) ≡ record { number = 0; length = length bytes }) × (write_buffer h (replicate (length bytes) 0xff) ≡ bytes)
 Holds (header_gives h room number) = write_answer h room ≡ record { number = number; length = 0 }
-Holds (header_words_lem h values) = All (λ x. get_or (header_words h) x.0 0 ≡ x.1) values
+Holds (words_of_header h values) = All (λ x. get_or (header_words h) x.0 0 ≡ x.1) values
 Holds (setup_gives x room number) = write_setup_answer x room ≡ record { number = number; length = 0 }
 Holds (agrees client server both w) = (agreement client server ≡ both) × (agreement_words both ≡ w)
 Holds (replies_are kinds) = map reply_kind_of (from 0 22) ≡ kinds
 Holds (reply_gives frame number limit room refusal) = error_reply_answer frame number limit room ≡ record { number = refusal; length = 0 }
 Holds (reply_reads frame number limit answer) = (read_answer (read_frame (error_reply frame number limit)) ≡ answer) × (payload_of (read_frame (error_reply frame number limit)) ≡ [])
-Holds (start_words_lem frame room values) = All (λ x. get_or (start_answer (read_frame frame) room).state x.0 0 ≡ x.1) values
+Holds (words_of_start frame room values) = All (λ x. get_or (start_answer (read_frame frame) room).state x.0 0 ≡ x.1) values
 Holds (piece_gives w room size number) = (piece_answer (state_in w) room size).number ≡ number
 Holds (state_gives w room number asked) = ((piece_answer (state_in w) room 0).number ≡ number) × (message_number (state_in w) room ≡ asked)
 Holds (pieces_take w room sizes answers) = piece_answers w room sizes ≡ answers
@@ -309,7 +309,7 @@ edges =
     ∷ header_gives (reading Msg (8 ∷ 6 ∷ [])) 0 9
     ∷ header_gives (reading Msg (8 ∷ 4 ∷ [])) 0 16
     ∷ header_gives (reading Msg []) 27 16
-    ∷ header_words_lem distinct ((0, 4) ∷ (1, 0) ∷ (2, 5) ∷ (3, 6) ∷ (4, 7) ∷ (5, 8) ∷ (96, 11) ∷ (97, 12) ∷ (98, 13) ∷ (99, 0) ∷ (160, 14) ∷ (164, 17) ∷ (224, 1) ∷ (225, 0) ∷ (228, 1) ∷ (229, 2) ∷ (230, 1) ∷ (231, 3) ∷ (232, 2) ∷ (233, 9) ∷ (234, 10) ∷ (235, 0x2a) ∷ (236, 0x20) ∷ (237, 0) ∷ [])
+    ∷ words_of_header distinct ((0, 4) ∷ (1, 0) ∷ (2, 5) ∷ (3, 6) ∷ (4, 7) ∷ (5, 8) ∷ (96, 11) ∷ (97, 12) ∷ (98, 13) ∷ (99, 0) ∷ (160, 14) ∷ (164, 17) ∷ (224, 1) ∷ (225, 0) ∷ (228, 1) ∷ (229, 2) ∷ (230, 1) ∷ (231, 3) ∷ (232, 2) ∷ (233, 9) ∷ (234, 10) ∷ (235, 0x2a) ∷ (236, 0x20) ∷ (237, 0) ∷ [])
     ∷ setup_reads (0xf6 ∷ 0xab ∷ 0x0e ∷ 0x18 ∷ 0x01 ∷ 0x03 ∷ 0x03 ∷ 0x07 ∷ []) (record { setup = side true 4096 8192; present = true; number = 0 })
     ∷ setup_reads (0xf6 ∷ 0xab ∷ 0x0e ∷ 0x18 ∷ 0x01 ∷ 0x02 ∷ 0x03 ∷ 0x07 ∷ []) (record { setup = side false 4096 8192; present = true; number = 0 })
     ∷ setup_gives (side true 1000 1024) 0 20
@@ -328,8 +328,8 @@ edges =
     ∷ starts (call 0 ((0, 4) ∷ []) []) 4 12
     ∷ starts (call 0 ((0, 0) ∷ []) []) 4 12
     ∷ starts (call 1 ((0, 0) ∷ []) []) 4 0
-    ∷ start_words_lem (call 0 ((8, 5) ∷ []) twelve) 24 ((0, 8) ∷ (2, 7) ∷ (3, 5) ∷ (4, 9) ∷ (96, 12) ∷ (97, 0) ∷ (98, 24) ∷ (100, 0) ∷ (102, 1) ∷ (103, 0) ∷ [])
-    ∷ start_words_lem (call 1 ((0, 12) ∷ (8, 5) ∷ []) []) 20 ((6, 8) ∷ (96, 12) ∷ (98, 20) ∷ (102, 2) ∷ (103, 1) ∷ [])
+    ∷ words_of_start (call 0 ((8, 5) ∷ []) twelve) 24 ((0, 8) ∷ (2, 7) ∷ (3, 5) ∷ (4, 9) ∷ (96, 12) ∷ (97, 0) ∷ (98, 24) ∷ (100, 0) ∷ (102, 1) ∷ (103, 0) ∷ [])
+    ∷ words_of_start (call 1 ((0, 12) ∷ (8, 5) ∷ []) []) 20 ((6, 8) ∷ (96, 12) ∷ (98, 20) ∷ (102, 2) ∷ (103, 1) ∷ [])
     ∷ piece_gives (replicate 104 0) 0 0 0
     ∷ piece_gives (replicate 104 0) 4 0 17
     ∷ []
@@ -521,7 +521,7 @@ list_words i (e ∷ es) = place_words i e ++ list_words (i + 1) es
 
 -- A start over a frame with these entries, 12 bytes inline and a buffer of so many bytes leaves this list, its length, and a place behind it that is zero.
 abbrev pub lists : List (ℕ × ℕ × ℕ) → ℕ → List (ℕ × ℕ × ℕ) → Example
-lists entries room list = start_words_lem (handle_call 0 entries twelve) room (list_words 0 list ++ place_words (length list) (0, 0, 0) ++ ((102, length list) ∷ []))
+lists entries room list = words_of_start (handle_call 0 entries twelve) room (list_words 0 list ++ place_words (length list) (0, 0, 0) ++ ((102, length list) ∷ []))
 
 -- The state of C7's call, but with these two positions.
 abbrev pub positioned : ℕ → ℕ → List ℕ
@@ -548,9 +548,9 @@ order_cases =
     ∷ lists ((8, 1, 2) ∷ (4, 2, 4) ∷ (8, 3, 3) ∷ []) 24 ((4, 2, 4) ∷ (8, 1, 2) ∷ (8, 3, 3) ∷ [])
     ∷ lists ((8, 3, 1) ∷ (8, 1, 1) ∷ (8, 2, 1) ∷ []) 16 ((8, 3, 1) ∷ (8, 1, 1) ∷ (8, 2, 1) ∷ [])
     ∷ lists ((8, 3, 1) ∷ (8, 1, 1) ∷ (4, 4, 0) ∷ (8, 2, 1) ∷ (4, 0, 0) ∷ []) 16 ((4, 4, 0) ∷ (4, 0, 0) ∷ (8, 3, 1) ∷ (8, 1, 1) ∷ (8, 2, 1) ∷ [])
-    ∷ start_words_lem (handle_call 1 ((8, 1, 5) ∷ (0, 2, 4) ∷ (4, 3, 0) ∷ (0, 4, 8) ∷ []) []) 20 (list_words 0 ((0, 2, 4) ∷ (0, 4, 8) ∷ (4, 3, 0) ∷ (8, 1, 5) ∷ (0, 0, 0) ∷ []))
-    ∷ start_words_lem (handle_call 0 falling16 (replicate 64 1)) 64 (list_words 0 rising16)
-    ∷ start_words_lem (handle_call 0 rising16 (replicate 64 1)) 64 (list_words 0 rising16)
+    ∷ words_of_start (handle_call 1 ((8, 1, 5) ∷ (0, 2, 4) ∷ (4, 3, 0) ∷ (0, 4, 8) ∷ []) []) 20 (list_words 0 ((0, 2, 4) ∷ (0, 4, 8) ∷ (4, 3, 0) ∷ (8, 1, 5) ∷ (0, 0, 0) ∷ []))
+    ∷ words_of_start (handle_call 0 falling16 (replicate 64 1)) 64 (list_words 0 rising16)
+    ∷ words_of_start (handle_call 0 rising16 (replicate 64 1)) 64 (list_words 0 rising16)
     ∷ assembles (call 0 ((16, 4) ∷ (8, 5) ∷ []) twelve) 24 (piece five ∷ piece four ∷ asking ∷ []) (gives 0 [] ∷ gives 0 [] ∷ gives 0 c7_at16 ∷ [])
     ∷ assembles (call 0 ((20, 4) ∷ (8, 5) ∷ []) twelve) 24 (piece (five ++ four) ∷ asking ∷ []) (gives 0 [] ∷ gives 0 c7_at20 ∷ [])
     ∷ assembles (call 1 ((8, 5) ∷ (0, 12) ∷ []) []) 20 (piece twelve ∷ asking ∷ piece five ∷ asking ∷ []) (gives 0 [] ∷ gives 19 [] ∷ gives 0 [] ∷ gives 0 c6_message ∷ [])

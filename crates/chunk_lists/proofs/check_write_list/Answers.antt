@@ -1,0 +1,29 @@
+-- `chunk_lists::check_write_list` meets its contract.
+use native.Mathlib.Omega.{arith}
+use borrow.Author.Rules.{rules}
+use Rattle.chunk_lists.proofs.ListBytes.{marker_there, no_chunks, chunks_number, chunks_refused, chunks_long, chunks_done}
+use Rattle.chunk_lists.proofs.check_write_list.Goals as goal
+
+pub overflow_sub-result : goal.overflow_sub-result
+overflow_sub-result c = search marker_there
+
+pub returns-then-is_end : goal.returns-then-is_end
+returns-then-is_end c = search no_chunks
+
+pub overflow_cast-result : goal.overflow_cast-result
+overflow_cast-result c = omega (arith, chunks_number _ _ c.check_write_entries-answer.ensures)
+
+pub returns-then-answer-ge-REFUSED : goal.returns-then-answer-ge-REFUSED
+returns-then-answer-ge-REFUSED c = search chunks_refused
+
+pub overflow_sub-result-2 : goal.overflow_sub-result-2
+overflow_sub-result-2 c = omega (arith, chunks_long _ _ c.check_write_entries-answer.ensures c.if-answer-ge-REFUSED.false)
+
+pub overflow_sub-result-3 : goal.overflow_sub-result-3
+overflow_sub-result-3 c = omega (arith, chunks_long _ _ c.check_write_entries-answer.ensures c.if-answer-ge-REFUSED.false)
+
+pub overflow_sub-result-4 : goal.overflow_sub-result-4
+overflow_sub-result-4 c = omega (arith, chunks_long _ _ c.check_write_entries-answer.ensures c.if-answer-ge-REFUSED.false)
+
+pub returns : goal.returns
+returns c = search chunks_done

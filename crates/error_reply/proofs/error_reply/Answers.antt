@@ -1,0 +1,64 @@
+-- `error_reply::error_reply` meets its contract.
+use Rattle.credit.proofs.Granting.{positive}
+use Rattle.error_reply.proofs.ReplyTable.{none_fits}
+use Rattle.error_reply.proofs.ReplyWritten.{none_length, no_length, reply_length_lem, chunk_room, both_kept, one_kept, chunk_stored, version_stored, reply_stored}
+use mathlib.Core.Path.{refl, sym, ap, ◌∙◌}
+use mathlib.Core.Logic.{⊎_elim}
+use native.Mathlib.Omega.{arith}
+use lib.ListN.{length}
+use borrow.Author.Tests.{le-leb, lt-leb}
+use Rattle.error_reply.specs.Reply.{error_reply_answer, error_reply_buffer, error_reply_number, error_reply, reply_kind_for}
+use Rattle.wire.specs.Wire.{words, joined}
+use borrow.Author.Rules.{rules}
+use Rattle.error_reply.proofs.error_reply.Goals as goal
+
+-- The clauses, from all of them at once.
+clauses : {A B : Type 0} → A × (B → record { answer : A; buffer : B }
+clauses p = record { answer = p.0; buffer = p.1 }
+
+pub returns-then-limit-eq0 : goal.returns-then-limit-eq0
+unfolding error_reply_answer error_reply_buffer error_reply_number
+returns-then-limit-eq0 c = clauses (rw (c.if-limit-eq0.true, c.nothing_written.ensures) (refl, refl))
+
+pub returns-then-number-gt-LAST_NUMBER : goal.returns-then-number-gt-LAST_NUMBER
+unfolding error_reply_answer error_reply_buffer error_reply_number
+returns-then-number-gt-LAST_NUMBER c = clauses (simp (le-leb 1 _ (positive _ c.if-limit-eq0.false), lt-leb _ 21 c.if-number-gt-LAST_NUMBER.true, c.nothing_written-then-number-gt-LAST_NUMBER.ensures) (refl, refl))
+
+pub returns-then-frame-lt-FIXED_BYTES : goal.returns-then-frame-lt-FIXED_BYTES
+unfolding error_reply_answer error_reply_buffer error_reply_number error_reply reply_kind_for words joined
+returns-then-frame-lt-FIXED_BYTES c = clauses (simp (le-leb 1 _ (positive _ c.if-limit-eq0.false), le-leb _ 21 c.if-number-gt-LAST_NUMBER.false, lt-leb 16 _ c.if-frame-lt-FIXED_BYTES.true, none_fits, c.nothing_written-then-frame-lt-FIXED_BYTES.ensures) (refl, refl))
+
+pub returns-then-n-eq0 : goal.returns-then-n-eq0
+unfolding error_reply_answer error_reply_buffer error_reply_number error_reply words joined
+returns-then-n-eq0 c = clauses (let none = sym c.kind_for.ensures ∙ none_length _ (sym c.length_of-n.ensures ∙ c.if-n-eq0.true) in
+    simp (le-leb 1 _ (positive _ c.if-limit-eq0.false), le-leb _ 21 c.if-number-gt-LAST_NUMBER.false, none, none_fits, c.nothing_written-then-n-eq0.ensures) (refl, refl))
+
+pub returns-then-out-n : goal.returns-then-out-n
+unfolding error_reply_answer error_reply_buffer error_reply_number error_reply
+returns-then-out-n c = clauses (simp (le-leb 1 _ (positive _ c.if-limit-eq0.false), le-leb _ 21 c.if-number-gt-LAST_NUMBER.false, ← c.kind_for.ensures, reply_length_lem, ← c.length_of-n.ensures, lt-leb _ _ c.if-out-n.true, c.nothing_written-then-out-n.ensures) (refl, refl))
+
+-- The buffer behind a version reply's words is as long as before.
+pub put_word-requires : goal.put_word-requires
+put_word-requires c = let room = chunk_room _ _ _ c.length_of-n.ensures c.if-n-eq0.false c.if-out-n.false in
+    let kept = ⊎_elim (λ t. ap length t.5 ∙ both_kept _ _ _ _ _ _ t.2.ensures) (λ t. ap length t.1) c.if-n-eq-VERSION_ERROR_BYTES.branch in
+    omega (arith, room, kept)
+
+pub encode_chunk-requires : goal.encode_chunk-requires
+encode_chunk-requires c = let kept = ⊎_elim (λ t. ap length t.5 ∙ both_kept _ _ _ _ _ _ t.2.ensures) (λ t. ap length t.1) c.if-n-eq-VERSION_ERROR_BYTES.branch in
+    (c.if-frame-lt-FIXED_BYTES.false, rw (one_kept _ _ _ _ c.put_word.ensures ∙ kept) (chunk_room _ _ _ c.length_of-n.ensures c.if-n-eq0.false c.if-out-n.false))
+
+pub shape_of-out-then-n-eq-CHUNK_ERROR_BYTES : goal.shape_of-out-then-n-eq-CHUNK_ERROR_BYTES
+shape_of-out-then-n-eq-CHUNK_ERROR_BYTES c = both_kept _ _ _ _ _ _ c.encode_chunk.ensures ∙ one_kept _ _ _ _ c.put_word.ensures ∙ ⊎_elim (λ t. ap length t.5 ∙ both_kept _ _ _ _ _ _ t.2.ensures) (λ t. ap length t.1) c.if-n-eq-VERSION_ERROR_BYTES.branch
+
+pub returns-then-n-eq-CHUNK_ERROR_BYTES : goal.returns-then-n-eq-CHUNK_ERROR_BYTES
+returns-then-n-eq-CHUNK_ERROR_BYTES c = clauses (⊎_elim (λ t. absurd (omega (arith, t.0.taken, c.if-n-eq-CHUNK_ERROR_BYTES.true)))
+    (λ t. reply_stored _ _ _ _ _ _ _ _ _ (positive _ c.if-limit-eq0.false) c.if-number-gt-LAST_NUMBER.false c.kind_for.ensures c.length_of-n.ensures c.if-out-n.false c.word_at-asked.ensures c.granted_credit.ensures (chunk_stored _ _ _ _ _ _ _ _ c.length_of-n.ensures c.if-n-eq-CHUNK_ERROR_BYTES.true (rw (← t.1) c.put_word.ensures) c.encode_chunk.ensures))
+    c.if-n-eq-VERSION_ERROR_BYTES.branch)
+
+pub shape_of-out-else-n-eq-CHUNK_ERROR_BYTES : goal.shape_of-out-else-n-eq-CHUNK_ERROR_BYTES
+shape_of-out-else-n-eq-CHUNK_ERROR_BYTES c = one_kept _ _ _ _ c.put_word.ensures ∙ ⊎_elim (λ t. ap length t.5 ∙ both_kept _ _ _ _ _ _ t.2.ensures) (λ t. ap length t.1) c.if-n-eq-VERSION_ERROR_BYTES.branch
+
+pub returns-else-n-eq-CHUNK_ERROR_BYTES : goal.returns-else-n-eq-CHUNK_ERROR_BYTES
+returns-else-n-eq-CHUNK_ERROR_BYTES c = clauses (⊎_elim (λ t. reply_stored _ _ _ _ _ _ _ _ _ (positive _ c.if-limit-eq0.false) c.if-number-gt-LAST_NUMBER.false c.kind_for.ensures c.length_of-n.ensures c.if-out-n.false c.word_at-asked.ensures c.granted_credit.ensures (version_stored _ _ _ _ _ _ _ _ c.length_of-n.ensures t.0.taken (t.5 ∙ t.2.ensures) c.put_word.ensures))
+    (λ t. absurd (no_length _ _ c.length_of-n.ensures c.if-n-eq0.false t.0.left c.if-n-eq-CHUNK_ERROR_BYTES.false))
+    c.if-n-eq-VERSION_ERROR_BYTES.branch)

@@ -1,0 +1,21 @@
+-- `error_reply::kind_of` meets its contract.
+use mathlib.Core.Path.{◌≡◌, refl, ap, ◌∙◌}
+use Prim.Native.Nat.{◌<◌, ◌≤◌, ◌-◌}
+use native.Mathlib.Omega.{arith}
+use mathlib.Core.Logic.{⊎_elim}
+use borrow.Author.Rules.{rules}
+use Rattle.error_reply.specs.Reply.{reply_kind_of}
+use Rattle.error_reply.proofs.ReplyTable.{listed, by_table}
+use Rattle.error_reply.proofs.kind_of.Goals as goal
+
+pub loop-i-init : goal.loop-i-init
+unfolding reply_kind_of
+loop-i-init c = (omega arith, refl, λ h. absurd (omega arith))
+
+pub loop-i-preserved : goal.loop-i-preserved
+loop-i-preserved c = let known = c.loop-i.invariant in
+    let here = c.loop-i-test.true in
+    (omega (arith, here), known.1, λ passed. ⊎_elim (λ t. t.2 ∙ by_table _ known.1 _ (omega (arith, here)) ∙ ap reply_kind_of t.0.taken) (λ t. t.1 ∙ known.2 (omega (arith, passed, t.0.left))) c.if-i-number.branch)
+
+pub returns : goal.returns
+returns c = c.loop-i.invariant.2 (omega (arith, c.loop-i-test.false, c.requires))

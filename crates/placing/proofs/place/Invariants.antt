@@ -1,0 +1,32 @@
+-- `placing::place` meets its contract.
+use mathlib.Core.Path.{◌≡◌, refl, sym, ap, ◌∙◌}
+use mathlib.Core.List.{List, ◌∷◌}
+use Prim.Native.Nat.{ℕ, ◌+◌, ◌-◌, ◌≤◌, ◌<◌, min}
+use native.Mathlib.Nat.{add-zero, sub-zero}
+use native.Mathlib.Omega.{arith}
+use borrow.Author.Rules.{rules}
+use lib.Seq.{take-length, length-take-le}
+use lib.ListN.{length, take, drop}
+use Rattle.wire.specs.declared.ReadSegment.{ReadSegment}
+use Rattle.chunk_lists.specs.Words.{reads_in}
+use Rattle.chunk_lists.proofs.Words.{length_reads}
+use Rattle.layout.specs.Places.{scatter}
+use Rattle.layout.specs.Layout.{other_chunks}
+use Rattle.layout.specs.Internal.Walks.{read_length}
+use Rattle.layout.proofs.Scatter.{length_scatter, scatter_none}
+use Rattle.layout.proofs.ChunkWalk.{segment_here}
+use Rattle.placing.specs.Segments.{dealt, position_length}
+use Rattle.placing.specs.Goes.{PulledByte, of_segment, pulled_bytes, goes}
+use Rattle.placing.specs.Internal.Sources.{read_places, part_places}
+use Rattle.placing.proofs.Segments.{read_length_lem}
+use Rattle.placing.proofs.SegmentSteps.{SegmentAt, segment_at_lem, PartAt, part_at, part_placed, part_counted, Hand, hand_start, hand_before, hand_next, read_next, read_most, still_there, start_sum, length_within, part_length, finished, less_sum, less_rest}
+use Rattle.placing.proofs.Bounds.{most_goes}
+use Rattle.placing.proofs.place.Given as goal
+
+abbrev pub invariant-loop-j : goal.invariant-loop-j
+invariant-loop-j l = (l.i ≤ l.n) × (l.j ≤ length l.piece) × (l.count + l.j ≡ read_length (take l.i (list l.words l.n)) + l.left) × Hand (list l.words l.n) l.i l.chunk × (length l.out ≡ length l.initial.out)
+    × (l.out ≡ scatter (drop l.count (read_places l.base (list l.words l.n))) (take l.j l.piece) l.initial.out)
+    × (l.goes + goes (take (length l.piece - l.j) (drop (l.count + l.j) (bytes l.words l.n l.base))) ≡ goes (take (length l.piece) (drop l.count (bytes l.words l.n l.base))))
+
+abbrev pub decreases-loop-j : goal.decreases-loop-j
+decreases-loop-j l = (length l.piece - l.j) + (l.n - l.i)

@@ -1,0 +1,13 @@
+-- `replay::report_input` keeps to what it was lent, and ends.
+use mathlib.Core.Path.{◌≡◌, sym, ap, ◌∙◌}
+use Prim.Native.Nat.{◌≤◌}
+use lib.ListN.{length}
+use Rattle.trace_text.proofs.Texts.{heading_length}
+use borrow.Author.Rules.{rules}
+use Rattle.replay.proofs.report_input.Given as goal
+
+abbrev pub invariant-loop-turns : goal.invariant-loop-turns
+invariant-loop-turns l = (length l.frame ≡ length l.initial.block) × (length l.s ≡ length l.initial.out) × (22 ≤ length l.initial.out)
+
+abbrev pub decreases-loop-turns : goal.decreases-loop-turns
+decreases-loop-turns l = reads

@@ -1,0 +1,11 @@
+-- `trace::feed` meets its contract.
+use Rattle.std.proofs.Common.{◌-◌, length, arith, rules}
+use Rattle.trace_line.specs.Internal.Taking.{Values}
+use Rattle.trace.proofs.Blocks.{Running, running_starts, running_more, ends_full, ends_whole, rest_some, rest_length}
+use Rattle.trace.proofs.feed.Given as goal
+
+abbrev pub invariant-loop-i : goal.invariant-loop-i
+invariant-loop-i l = Values 256 l.values × Running l.initial.s l.block l.initial.frame l.initial.out l.s l.frame l.i l.w l.out
+
+abbrev pub decreases-loop-i : goal.decreases-loop-i
+decreases-loop-i l = length l.block - l.i

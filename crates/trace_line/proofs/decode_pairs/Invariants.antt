@@ -1,0 +1,21 @@
+-- `trace_line::decode_pairs` meets its contract.
+use mathlib.Core.Path.{◌≡◌, refl}
+use mathlib.Core.Bool.{true}
+use mathlib.Core.List.{◌++◌}
+use Prim.Native.Nat.{◌≤◌, ◌-◌, ◌+◌, ◌*◌, ◌/◌, ◌%◌, min}
+use native.Mathlib.Omega.{arith}
+use lib.ListN.{length, take, drop, get_or, length-set}
+use borrow.Author.Rules.{rules}
+use Rattle.trace_line.specs.Line.{all_digits, bytes_of}
+use Rattle.trace_line.proofs.Digits.{Four, four_digits, pairs_digits, pairs_more}
+use Rattle.trace_line.proofs.decode_pairs.Reads as reads
+use Rattle.trace_line.proofs.decode_pairs.Lts as lts
+use Rattle.trace_line.proofs.digit.Reads as digit
+use Rattle.wire.proofs.smaller.Reads as smaller
+use Rattle.trace_line.proofs.decode_pairs.Given as goal
+
+abbrev pub invariant-loop-k : goal.invariant-loop-k
+invariant-loop-k l = (l.k ≤ l.n) × (l.n ≡ min (length l.text / 4) (length l.initial.frame / 2) * 2) × (length l.frame ≡ length l.initial.frame) × (all_digits (take (2 * l.k) l.text) ≡ true) × (l.frame ≡ bytes_of (take (2 * l.k) l.text) ++ drop l.k l.initial.frame) × (l.k % 2 ≡ 0)
+
+abbrev pub decreases-loop-k : goal.decreases-loop-k
+decreases-loop-k l = l.n - l.k

@@ -1,0 +1,25 @@
+-- `writer::encode_write_list` meets its contract.
+use mathlib.Core.Path.{◌≡◌, refl}
+use Prim.Native.Nat.{◌+◌, ◌*◌, ◌≤◌, ◌-◌}
+use native.Mathlib.Omega.{arith}
+use lib.ListN.{get_or, length, take}
+use lib.Seq.{length-take-le}
+use borrow.Author.Rules.{rules}
+use Rattle.wire.specs.Wire.{stored, joined}
+use Rattle.wire.proofs.Fields.{then}
+use Rattle.wire.proofs.Joining.{joined_snoc}
+use Rattle.chunk_lists.specs.Words.{segments_in}
+use Rattle.chunk_lists.proofs.Words.{length_segments}
+use Rattle.header.specs.Content.{runs}
+use Rattle.header.specs.Limits.{total}
+use Rattle.header.specs.Words.{counts_in}
+use Rattle.header.specs.Bytes.{chunk_bytes, write_list_bytes}
+use Rattle.header.proofs.Limits.{total_next, total_within, counts_long, count_here}
+use Rattle.header.proofs.Bytes.{runs_next, chunks_length}
+use Rattle.writer.proofs.encode_write_list.Given as goal
+
+abbrev pub invariant-loop-j : goal.invariant-loop-j
+invariant-loop-j l = (l.j ≤ l.n) × (length l.out ≡ length l.initial.out) × (l.used ≡ total (take l.j (counts_in l.words))) × (l.end ≡ l.k + l.j * 8 + l.used * 16) × (l.out ≡ stored l.initial.out l.k (joined chunk_bytes (runs (take l.j (counts_in l.words)) (segments_in 96 l.words))))
+
+abbrev pub decreases-loop-j : goal.decreases-loop-j
+decreases-loop-j l = l.n - l.j
