@@ -73,6 +73,7 @@ found_join p l (c ∷ cs) = by (order p c.at) (found_join p l cs)
     by (more h) ih = rw (join_more p l c cs h) (later ih)
 
 found_on : (q p l : ℕ) (cs : List Run) → Found q cs → Found q (join_chunk p l cs)
+found_on q p l [] f = elim f [ ]
 found_on q p l (c ∷ cs) f = by (order p c.at) f (found_on q p l cs)
   where
     by : Order p c.at → Found q (c ∷ cs) → (Found q cs → Found q (join_chunk p l cs)) → Found q (join_chunk p l (c ∷ cs))
@@ -159,6 +160,7 @@ module _ (xs : List ReadSegment) where
 
   at_found : (p : ℕ) (cs : List Run) → Ascending cs → Found p cs → at_position p (chunkwise cs) ≡ at_position p xs
   unfolding Ascending
+  at_found p [] a f = elim f [ ]
   at_found p (c ∷ cs) a (first e) = at_here p c cs (sym e) a.0
   at_found p (c ∷ cs) a (later f) = by (order p c.at) (at_found p cs a.1 f)
     where

@@ -50,7 +50,7 @@ rest_none false = refl
 turned : (short later gap full here : Bool) → (((short && later) || gap) || (not full && (here || later))) ≡ ((not full && here) || (gap || (not (full && not short) && later)))
 turned true later gap true here = simp or-false (or_comm later gap)
 turned false later gap true here = refl
-turned short true gap false here = simp or-true (sym (or-true here))
+turned short true gap false here = simp or-true
 turned short false gap false here = simp (and-false, or-false) (or_comm gap here)
 
 apart : (other others above aboves short later gap full here : Bool) → ((other || others) || ((above || aboves) || (((short && later) || gap) || (not full && (here || later))))) ≡ ((other || (above || (not full && here))) || (others || (aboves || (gap || (not (full && not short) && later)))))

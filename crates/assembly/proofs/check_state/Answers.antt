@@ -9,35 +9,38 @@ use Rattle.assembly.specs.Assembly.{reads_of}
 use Rattle.assembly.proofs.StateChecks.{unfit_checked, too_many, faulty_list, other_buffer, misplaced, other_base, over_taken, fit_checked}
 use Rattle.assembly.proofs.check_state.Goals as goal
 
--- The state that the words and the parts make.
-abbrev state : tie.Start → State
-state c = with_reads (reads_in c.args.words.now) c.args.p
-
--- What the walk over its list found.
-fine : (c : tie.After-reads) → FineReads c.before.before.before.before.before.before.before.before.before.args.p.base (reads_of (state c.before.before.before.before.before.before.before.before.before)) c.reads.given.0.0
-fine c = fine_told _ _ _ (sym c.before.before.check-reads.ensures ∙ c.reads.given.1)
-
 pub returns-then-p : goal.returns-then-p
-returns-then-p c = unfit_checked _ _ _ c.unfit.ensures (too_many (state c) c.args.room c.if-p.true)
+returns-then-p c = let state : State = with_reads (reads_in c.args.words.now) c.args.p in
+    unfit_checked _ _ _ c.unfit.ensures (too_many state c.args.room c.if-p.true)
 
 pub returns-then-p-room : goal.returns-then-p-room
-returns-then-p-room c = unfit_checked _ _ _ c.unfit-then-p-room.ensures (other_buffer (state c) c.args.room c.if-p-room.true)
+returns-then-p-room c = let state : State = with_reads (reads_in c.args.words.now) c.args.p in
+    unfit_checked _ _ _ c.unfit-then-p-room.ensures (other_buffer state c.args.room c.if-p-room.true)
 
 pub returns-in_default : goal.returns-in_default
-returns-in_default c = unfit_checked _ _ _ c.unfit-in_default.ensures (faulty_list (state c) c.args.room c.if-p.false (sym c.check_reads-reads.ensures ∙ c.in_default.is))
+returns-in_default c = let state : State = with_reads (reads_in c.args.words.now) c.args.p in
+    unfit_checked _ _ _ c.unfit-in_default.ensures (faulty_list state c.args.room c.if-p.false (sym c.check_reads-reads.ensures ∙ c.in_default.is))
 
 pub returns-in_default-measured : goal.returns-in_default-measured
-returns-in_default-measured c = let f = fine c in
-    unfit_checked _ _ _ c.unfit-in_default-measured.ensures (misplaced (state c) c.args.room c.if-p.false f.rise f.aligned c.if-p-room.false _ f.summed c.check_room-measured.result (c.check_room-measured.ensures _ f.stood) _ c.in_default-measured.is)
+returns-in_default-measured c = let state : State = with_reads (reads_in c.args.words.now) c.args.p in
+    let fine : FineReads c.args.p.base (reads_of state) c.in-Fine.found = fine_told _ _ _ (sym c.check_reads-reads.ensures ∙ c.in-Fine.is) in
+    let f = fine in
+    unfit_checked _ _ _ c.unfit-in_default-measured.ensures (misplaced state c.args.room c.if-p.false f.rise f.aligned c.if-p-room.false _ f.summed c.check_room-measured.result (c.check_room-measured.ensures _ f.stood) _ c.in_default-measured.is)
 
 pub returns-then-base_length-base : goal.returns-then-base_length-base
-returns-then-base_length-base c = let f = fine c in
-    unfit_checked _ _ _ c.unfit-then-base_length-base.ensures (other_base (state c) c.args.room c.if-p.false f.rise f.aligned c.if-p-room.false _ f.summed c.check_room-measured.result (c.check_room-measured.ensures _ f.stood) _ c.decreases.given.1 c.base_length.result c.base_length.ensures c.if-base_length-base.true)
+returns-then-base_length-base c = let state : State = with_reads (reads_in c.args.words.now) c.args.p in
+    let fine : FineReads c.args.p.base (reads_of state) c.in-Fine.found = fine_told _ _ _ (sym c.check_reads-reads.ensures ∙ c.in-Fine.is) in
+    let f = fine in
+    unfit_checked _ _ _ c.unfit-then-base_length-base.ensures (other_base state c.args.room c.if-p.false f.rise f.aligned c.if-p-room.false _ f.summed c.check_room-measured.result (c.check_room-measured.ensures _ f.stood) _ c.decreases.given.1 c.base_length.result c.base_length.ensures c.if-base_length-base.true)
 
 pub returns-then-sums-p : goal.returns-then-sums-p
-returns-then-sums-p c = let f = fine c in
-    unfit_checked _ _ _ c.unfit-then-sums-p.ensures (over_taken (state c) c.args.room c.if-p.false f.rise f.aligned c.if-p-room.false _ f.summed c.check_room-measured.result (c.check_room-measured.ensures _ f.stood) _ c.decreases.given.1 c.base_length.result c.base_length.ensures c.if-base_length-base.false c.if-sums-p.true)
+returns-then-sums-p c = let state : State = with_reads (reads_in c.args.words.now) c.args.p in
+    let fine : FineReads c.args.p.base (reads_of state) c.in-Fine.found = fine_told _ _ _ (sym c.check_reads-reads.ensures ∙ c.in-Fine.is) in
+    let f = fine in
+    unfit_checked _ _ _ c.unfit-then-sums-p.ensures (over_taken state c.args.room c.if-p.false f.rise f.aligned c.if-p-room.false _ f.summed c.check_room-measured.result (c.check_room-measured.ensures _ f.stood) _ c.decreases.given.1 c.base_length.result c.base_length.ensures c.if-base_length-base.false c.if-sums-p.true)
 
 pub returns : goal.returns
-returns c = let f = fine c in
-    fit_checked (state c) c.args.room c.if-p.false f.rise f.aligned c.if-p-room.false _ f.summed c.check_room-measured.result (c.check_room-measured.ensures _ f.stood) _ c.decreases.given.1 c.base_length.result c.base_length.ensures c.if-base_length-base.false _ c.if-sums-p.false refl
+returns c = let state : State = with_reads (reads_in c.args.words.now) c.args.p in
+    let fine : FineReads c.args.p.base (reads_of state) c.in-Fine.found = fine_told _ _ _ (sym c.check_reads-reads.ensures ∙ c.in-Fine.is) in
+    let f = fine in
+    fit_checked state c.args.room c.if-p.false f.rise f.aligned c.if-p-room.false _ f.summed c.check_room-measured.result (c.check_room-measured.ensures _ f.stood) _ c.decreases.given.1 c.base_length.result c.base_length.ensures c.if-base_length-base.false _ c.if-sums-p.false refl

@@ -5,7 +5,7 @@ use borrow.Author.Rules.{rules}
 use Rattle.assembly.proofs.take_piece.Goals as goal
 
 -- The clauses, from all of them at once.
-clauses : {A B C : Type 0} → A × (B × (C) → record { answer : A; state : B; buffer : C }
+clauses : {A B C : Type 0} → A × (B × C) → record { answer : A; state : B; buffer : C }
 clauses p = record { answer = p.0; state = p.1.0; buffer = p.1.1 }
 
 pub returns-then-done-ne0 : goal.returns-then-done-ne0

@@ -4,5 +4,4 @@ use borrow.Author.Rules.{rules}
 use Rattle.assembly_start.proofs.start.Goals as goal
 
 pub returns : goal.returns
-returns c = let made = c.start_into-number.ensures in
-    record { answer = rw (made.0, made.1.0, zero_state); buffer = made.1.1 }
+returns c = record { answer = rw (c.start_into-number.ensures.answer, c.start_into-number.ensures.state, zero_state); buffer = c.start_into-number.ensures.buffer }

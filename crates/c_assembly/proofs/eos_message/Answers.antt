@@ -8,7 +8,7 @@ use borrow.Author.Rules.{rules}
 use Rattle.c_assembly.proofs.eos_message.Goals as goal
 
 -- The clauses, from all of them at once.
-clauses : {A B : Type 0} → A × (B → record { answer : A; size : B }
+clauses : {A B : Type 0} → A × B → record { answer : A; size : B }
 clauses p = record { answer = p.0; size = p.1 }
 
 pub returns-then-a-ne0 : goal.returns-then-a-ne0

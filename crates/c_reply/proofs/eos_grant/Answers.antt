@@ -5,7 +5,7 @@ use borrow.Author.Rules.{rules}
 use Rattle.c_reply.proofs.eos_grant.Goals as goal
 
 -- The clauses, from all of them at once.
-clauses : {A B : Type 0} → A × (B → record { answer : A; credit : B }
+clauses : {A B : Type 0} → A × B → record { answer : A; credit : B }
 clauses p = record { answer = p.0; credit = p.1 }
 
 pub returns-then-a-ne0 : goal.returns-then-a-ne0

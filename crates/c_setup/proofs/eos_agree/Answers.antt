@@ -7,7 +7,7 @@ use borrow.Author.Rules.{rules}
 use Rattle.c_setup.proofs.eos_agree.Goals as goal
 
 -- The clauses, from all of them at once.
-clauses : {A B : Type 0} → A × (B → record { answer : A; agreement : B }
+clauses : {A B : Type 0} → A × B → record { answer : A; agreement : B }
 clauses p = record { answer = p.0; agreement = p.1 }
 
 pub returns-then-client-gt1 : goal.returns-then-client-gt1

@@ -5,7 +5,7 @@ use borrow.Author.Rules.{rules}
 use Rattle.c_setup.proofs.eos_read_setup.Goals as goal
 
 -- The clauses, from all of them at once.
-clauses : {A B C : Type 0} → A × (B × (C) → record { answer : A; setup : B; present : C }
+clauses : {A B C : Type 0} → A × (B × C) → record { answer : A; setup : B; present : C }
 clauses p = record { answer = p.0; setup = p.1.0; present = p.1.1 }
 
 pub returns : goal.returns

@@ -7,7 +7,7 @@ use borrow.Author.Rules.{rules}
 use Rattle.c_setup.proofs.eos_write_setup.Goals as goal
 
 -- The clauses, from all of them at once.
-clauses : {A B C : Type 0} → A × (B × (C) → record { answer : A; size : B; buffer : C }
+clauses : {A B C : Type 0} → A × (B × C) → record { answer : A; size : B; buffer : C }
 clauses p = record { answer = p.0; size = p.1.0; buffer = p.1.1 }
 
 pub returns-then-setup-gt1 : goal.returns-then-setup-gt1
@@ -18,11 +18,9 @@ returns-then-setup-gt1 c = clauses (let a = c.args in
 pub returns-then-a-ne0 : goal.returns-then-a-ne0
 returns-then-a-ne0 c = clauses (let a = c.args in
     let is = a_flag a.setup.now (length a.out.now) a.out.now c.if-setup-gt1.false in
-    let done = c.write_setup-a.ensures in
-    rw (is.0, is.1, ← c.setup_in.ensures, ← done.0, ne_eqb _ _ c.if-a-ne0.true) (refl, (refl, done.1)))
+    rw (is.0, is.1, ← c.setup_in.ensures, ← c.write_setup-a.ensures.answer, ne_eqb _ _ c.if-a-ne0.true) (refl, (refl, c.write_setup-a.ensures.buffer)))
 
 pub returns : goal.returns
 returns c = clauses (let a = c.args in
     let is = a_flag a.setup.now (length a.out.now) a.out.now c.if-setup-gt1.false in
-    let done = c.write_setup-a.ensures in
-    rw (is.0, is.1, ← c.setup_in.ensures, ← done.0, c.if-a-ne0.false) (refl, (refl, done.1)))
+    rw (is.0, is.1, ← c.setup_in.ensures, ← c.write_setup-a.ensures.answer, c.if-a-ne0.false) (refl, (refl, c.write_setup-a.ensures.buffer)))

@@ -13,7 +13,7 @@ use borrow.Author.Rules.{rules}
 use Rattle.error_reply.proofs.error_reply.Goals as goal
 
 -- The clauses, from all of them at once.
-clauses : {A B : Type 0} → A × (B → record { answer : A; buffer : B }
+clauses : {A B : Type 0} → A × B → record { answer : A; buffer : B }
 clauses p = record { answer = p.0; buffer = p.1 }
 
 pub returns-then-limit-eq0 : goal.returns-then-limit-eq0

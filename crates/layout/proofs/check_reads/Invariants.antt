@@ -17,6 +17,9 @@ use Rattle.layout.proofs.ChunkWalk.{ended_within_hand, segment_here, none_here}
 use Rattle.layout.proofs.ReadsWalk.{Walking, walking_start, unaligned, over, past, walking_next, walked}
 use Rattle.layout.proofs.check_reads.Given as goal
 
+abbrev pub list : List ℕ → ℕ → List ReadSegment
+list words n = take n (reads_in words)
+
 abbrev pub invariant-loop-i : goal.invariant-loop-i
 invariant-loop-i l = (l.i ≤ l.n) × Walking l.base (list l.words l.n) l.i l.earlier l.w l.s
 

@@ -23,6 +23,13 @@ use Rattle.placing.proofs.SegmentSteps.{SegmentAt, segment_at_lem, PartAt, part_
 use Rattle.placing.proofs.Bounds.{most_goes}
 use Rattle.placing.proofs.place.Given as goal
 
+-- The read list, and its bytes.
+abbrev pub list : List ℕ → ℕ → List ReadSegment
+list words n = take n (reads_in words)
+
+abbrev pub bytes : List ℕ → ℕ → ℕ → List PulledByte
+bytes words n base = pulled_bytes 0 (dealt (list words n) (read_places base (list words n)))
+
 abbrev pub invariant-loop-j : goal.invariant-loop-j
 invariant-loop-j l = (l.i ≤ l.n) × (l.j ≤ length l.piece) × (l.count + l.j ≡ read_length (take l.i (list l.words l.n)) + l.left) × Hand (list l.words l.n) l.i l.chunk × (length l.out ≡ length l.initial.out)
     × (l.out ≡ scatter (drop l.count (read_places l.base (list l.words l.n))) (take l.j l.piece) l.initial.out)

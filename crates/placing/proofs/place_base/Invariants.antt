@@ -22,6 +22,13 @@ use Rattle.placing.proofs.EmptySegments.{non_empty, PassedOver, passed_over_lem,
 use Rattle.placing.proofs.Sources.{placed_empty, piece_none, piece_goes_lem, GapStep, gap_step, step_within, last_placed, last_counted, fits_in, one_more, last_fits, less_left, not_all, seek_within, within_base}
 use Rattle.placing.proofs.place_base.Given as goal
 
+-- The read list, and the places of the base between its segments that are not empty.
+abbrev pub list : List ℕ → ℕ → List ReadSegment
+list words n = take n (reads_in words)
+
+abbrev pub some_places : List ℕ → ℕ → ℕ → List ℕ
+some_places words n base = base_places base (other_chunks (non_empty (list words n)))
+
 abbrev pub invariant-loop-i : goal.invariant-loop-i
 invariant-loop-i l = (l.i ≤ l.n) × Along (non_empty (drop l.i (list l.words l.n))) l.i l.earlier l.w × (length l.out ≡ length l.initial.out) × (l.j < length l.piece) × (l.out ≡ scatter (drop l.count (some_places l.words l.n l.base)) (take l.j l.piece) l.initial.out)
     × GapSought l.base (other_chunks (non_empty (list l.words l.n))) (l.count + l.j) l.earlier l.w (non_empty (drop l.i (list l.words l.n)))

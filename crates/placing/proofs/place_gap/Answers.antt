@@ -5,7 +5,7 @@ use Rattle.placing.proofs.Sources.{gap_none}
 use Rattle.placing.proofs.place_gap.Goals as goal
 
 -- The clauses, from all of them at once.
-clauses : {A B : Type 0} → A × (B → record { answer : A; buffer : B }
+clauses : {A B : Type 0} → A × B → record { answer : A; buffer : B }
 clauses p = record { answer = p.0; buffer = p.1 }
 
 pub returns-then-end-here : goal.returns-then-end-here

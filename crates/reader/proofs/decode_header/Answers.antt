@@ -8,67 +8,60 @@ use Rattle.reader.proofs.DecodedWords.{words_read}
 use borrow.Author.Rules.{rules}
 use Rattle.reader.proofs.decode_header.Goals as goal
 
--- A frame that was checked was read, and its shape keeps the bounds.
-found_at : (c : tie.After-walk) → Found c.before.before.before.before.args.s.now c.walk.given.0.0
-found_at c = found _ _ (sym c.before.before.check-frame.ensures ∙ c.walk.given.1)
-
-bounds_at : (c : tie.After-walk) → Bounds c.before.before.before.before.args.s.now c.walk.given.0.0
-bounds_at c = bounds _ _ (found_at c)
-
 -- The clauses, from all of them at once.
-clauses : {A B : Type 0} → A × (B → record { answer : A; words : B }
+clauses : {A B : Type 0} → A × B → record { answer : A; words : B }
 clauses p = record { answer = p.0; words = p.1 }
 
 pub returns-in_default : goal.returns-in_default
 returns-in_default c = let r = unfound c.args.s.now _ (sym c.check_frame-walk.ensures ∙ c.in_default.is) in record { answer = rw (r, c.frame_refusal.ensures, c.in_default.is); words = rw r }
 
 pub overflow_cast-words : goal.overflow_cast-words
-overflow_cast-words c = let b = bounds_at c in omega arith
+overflow_cast-words c = let b : Bounds c.args.s.now c.in-Found.shape = bounds _ _ (found _ _ (sym c.check_frame-walk.ensures ∙ c.in-Found.is)) in omega arith
 
 pub overflow_cast-words-2 : goal.overflow_cast-words-2
-overflow_cast-words-2 c = let b = bounds_at c in omega arith
+overflow_cast-words-2 c = let b : Bounds c.args.s.now c.in-Found.shape = bounds _ _ (found _ _ (sym c.check_frame-walk.ensures ∙ c.in-Found.is)) in omega arith
 
 pub overflow_cast-words-3 : goal.overflow_cast-words-3
-overflow_cast-words-3 c = let b = bounds_at c in omega arith
+overflow_cast-words-3 c = let b : Bounds c.args.s.now c.in-Found.shape = bounds _ _ (found _ _ (sym c.check_frame-walk.ensures ∙ c.in-Found.is)) in omega arith
 
 pub word_at-requires : goal.word_at-requires
-word_at-requires c = let b = bounds_at c in omega arith
+word_at-requires c = let b : Bounds c.args.s.now c.in-Found.shape = bounds _ _ (found _ _ (sym c.check_frame-walk.ensures ∙ c.in-Found.is)) in omega arith
 
 pub word_at-requires-2 : goal.word_at-requires-2
-word_at-requires-2 c = let b = bounds_at c in omega arith
+word_at-requires-2 c = let b : Bounds c.args.s.now c.in-Found.shape = bounds _ _ (found _ _ (sym c.check_frame-walk.ensures ∙ c.in-Found.is)) in omega arith
 
 pub overflow_mul-w : goal.overflow_mul-w
-overflow_mul-w c = let b = bounds_at c in omega arith
+overflow_mul-w c = let b : Bounds c.args.s.now c.in-Found.shape = bounds _ _ (found _ _ (sym c.check_frame-walk.ensures ∙ c.in-Found.is)) in omega arith
 
 pub overflow_add-w : goal.overflow_add-w
-overflow_add-w c = let b = bounds_at c in omega arith
+overflow_add-w c = let b : Bounds c.args.s.now c.in-Found.shape = bounds _ _ (found _ _ (sym c.check_frame-walk.ensures ∙ c.in-Found.is)) in omega arith
 
 pub overflow_mul-p : goal.overflow_mul-p
-overflow_mul-p c = let b = bounds_at c in omega arith
+overflow_mul-p c = let b : Bounds c.args.s.now c.in-Found.shape = bounds _ _ (found _ _ (sym c.check_frame-walk.ensures ∙ c.in-Found.is)) in omega arith
 
 pub overflow_sub-p : goal.overflow_sub-p
-overflow_sub-p c = let b = bounds_at c in omega arith
+overflow_sub-p c = let b : Bounds c.args.s.now c.in-Found.shape = bounds _ _ (found _ _ (sym c.check_frame-walk.ensures ∙ c.in-Found.is)) in omega arith
 
 pub slice_bounds-decode_read_list-count : goal.slice_bounds-decode_read_list-count
-slice_bounds-decode_read_list-count c = let b = bounds_at c in omega arith
+slice_bounds-decode_read_list-count c = let b : Bounds c.args.s.now c.in-Found.shape = bounds _ _ (found _ _ (sym c.check_frame-walk.ensures ∙ c.in-Found.is)) in omega arith
 
 pub slice_bounds-decode_read_list-start : goal.slice_bounds-decode_read_list-start
-slice_bounds-decode_read_list-start c = let b = bounds_at c in omega arith
+slice_bounds-decode_read_list-start c = let b : Bounds c.args.s.now c.in-Found.shape = bounds _ _ (found _ _ (sym c.check_frame-walk.ensures ∙ c.in-Found.is)) in omega arith
 
 pub decode_read_list-requires : goal.decode_read_list-requires
-decode_read_list-requires c = let b = bounds_at c in (b.reads_few, rw part_from (omega (arith, length-drop 16 c.args.s.now)), search rules)
+decode_read_list-requires c = let b : Bounds c.args.s.now c.in-Found.shape = bounds _ _ (found _ _ (sym c.check_frame-walk.ensures ∙ c.in-Found.is)) in (b.reads_few, rw part_from (omega (arith, length-drop 16 c.args.s.now)), search rules)
 
 pub slice_bounds-decode_write_list-count : goal.slice_bounds-decode_write_list-count
-slice_bounds-decode_write_list-count c = let b = bounds_at c in omega arith
+slice_bounds-decode_write_list-count c = let b : Bounds c.args.s.now c.in-Found.shape = bounds _ _ (found _ _ (sym c.check_frame-walk.ensures ∙ c.in-Found.is)) in omega arith
 
 pub slice_bounds-decode_write_list-start : goal.slice_bounds-decode_write_list-start
-slice_bounds-decode_write_list-start c = let b = bounds_at c in omega arith
+slice_bounds-decode_write_list-start c = let b : Bounds c.args.s.now c.in-Found.shape = bounds _ _ (found _ _ (sym c.check_frame-walk.ensures ∙ c.in-Found.is)) in omega arith
 
 pub decode_write_list-requires : goal.decode_write_list-requires
-decode_write_list-requires c = let b = bounds_at c in (b.chunks_few, rw part_from (chunks_fit _ _ (found_at c)), omega arith, search rules)
+decode_write_list-requires c = let b : Bounds c.args.s.now c.in-Found.shape = bounds _ _ (found _ _ (sym c.check_frame-walk.ensures ∙ c.in-Found.is)) in (b.chunks_few, rw part_from (chunks_fit _ _ (found _ _ (sym c.check_frame-walk.ensures ∙ c.in-Found.is))), omega arith, search rules)
 
 pub decode_segments-requires : goal.decode_segments-requires
-decode_segments-requires c = let b = bounds_at c in (b.replies_few, omega arith, search rules)
+decode_segments-requires c = let b : Bounds c.args.s.now c.in-Found.shape = bounds _ _ (found _ _ (sym c.check_frame-walk.ensures ∙ c.in-Found.is)) in (b.replies_few, omega arith, search rules)
 
 pub returns : goal.returns
-returns c = clauses (words_read c.args.s.now c.in-Found.shape (found_at c) _ _ _ _ _ _ _ _ _ _ c.kind_number.ensures c.low_of.ensures c.high_of.ensures c.flag_number.ensures c.word_at.ensures c.word_at-2.ensures c.decode_read_list.ensures c.decode_write_list.ensures c.decode_segments.ensures)
+returns c = clauses (words_read c.args.s.now c.in-Found.shape (found _ _ (sym c.check_frame-walk.ensures ∙ c.in-Found.is)) _ _ _ _ _ _ _ _ _ _ c.kind_number.ensures c.low_of.ensures c.high_of.ensures c.flag_number.ensures c.word_at.ensures c.word_at-2.ensures c.decode_read_list.ensures c.decode_write_list.ensures c.decode_segments.ensures)

@@ -7,11 +7,11 @@ use borrow.Author.Rules.{rules}
 use Rattle.replay.proofs.end_report.Goals as goal
 
 pub slice_bounds-last-end : goal.slice_bounds-last-end
-slice_bounds-last-end c = let z = ap length c.finish-n.ensures.1.0 ∙ length_stored _ 0 _ in
-    let few = c.finish-n.ensures.1.1 in
+slice_bounds-last-end c = let z = ap length c.finish-n.ensures.buffer ∙ length_stored _ 0 _ in
+    let few = c.finish-n.ensures.within in
     search rules
 
 pub slice_bounds-write_part-end : goal.slice_bounds-write_part-end
-slice_bounds-write_part-end c = let z = ap length c.finish-n.ensures.1.0 ∙ length_stored _ 0 _ in
-    let few = c.finish-n.ensures.1.1 in
+slice_bounds-write_part-end c = let z = ap length c.finish-n.ensures.buffer ∙ length_stored _ 0 _ in
+    let few = c.finish-n.ensures.within in
     simp length-take (omega arith)

@@ -9,11 +9,8 @@ use borrow.Author.Tests.{not-true, not-false}
 use Rattle.wire.specs.declared.Segment.{Segment}
 use Rattle.chunk_lists.specs.Words.{segments_in}
 use Rattle.returned.proofs.Chunks.{Comparing, comparing_starts, comparing_next, comparing_fault, comparing_ends, chunk_next, chunk_end}
+use Rattle.returned.proofs.check_chunk.Invariants.{segments}
 use Rattle.returned.proofs.check_chunk.Goals as goal
-
--- The segments that are compared.
-abbrev segments : ℕ → ℕ → ℕ → List ℕ → List Segment
-segments from i n w = take n (drop i (segments_in from w))
 
 pub loop-j-init : goal.loop-j-init
 loop-j-init c = (search rules, search rules, comparing_starts _ _)

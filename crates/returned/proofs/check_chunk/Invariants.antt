@@ -11,6 +11,10 @@ use Rattle.chunk_lists.specs.Words.{segments_in}
 use Rattle.returned.proofs.Chunks.{Comparing, comparing_starts, comparing_next, comparing_fault, comparing_ends, chunk_next, chunk_end}
 use Rattle.returned.proofs.check_chunk.Given as goal
 
+-- The segments that are compared.
+abbrev pub segments : ℕ → ℕ → ℕ → List ℕ → List Segment
+segments from i n w = take n (drop i (segments_in from w))
+
 abbrev pub invariant-loop-j : goal.invariant-loop-j
 invariant-loop-j l = (l.j ≤ l.n) × (l.offered ≤ l.j * 4294967295) × Comparing (segments l.from l.i l.n l.sent) (segments l.from l.i l.n l.reply) l.offered l.landed l.j
 

@@ -7,7 +7,7 @@ use Rattle.returned.proofs.Lent.{reply_unknown}
 use Rattle.returned.proofs.returned_words.Goals as goal
 
 -- The clauses, from all of them at once.
-clauses : {A B : Type 0} → A × (B → record { answer : A; landed : B }
+clauses : {A B : Type 0} → A × B → record { answer : A; landed : B }
 clauses p = record { answer = p.0; landed = p.1 }
 
 pub returns-in_default : goal.returns-in_default
@@ -25,4 +25,4 @@ returns-then-reply-gt-FLAG_SET c = clauses (rw (flag_unknown c.args.reply.now _ 
 pub returns : goal.returns
 returns c = clauses (let s = header_known c.args.sent.now _ (sym c.kind_in-known.ensures ∙ c.in-Is.is) c.if-sent-gt-FLAG_SET.false in
     let r = header_known c.args.reply.now _ (sym c.kind_in-replied.ensures ∙ c.in-Is-replied.is) c.if-reply-gt-FLAG_SET.false in
-    rw (s, r) c.check_headers.ensures)
+    rw (s, r) (c.check_headers.ensures.answer, c.check_headers.ensures.landed))

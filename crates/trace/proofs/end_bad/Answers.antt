@@ -5,7 +5,7 @@ use Rattle.trace.proofs.Ends.{ended_bad}
 use Rattle.trace.proofs.end_bad.Goals as goal
 
 -- The clauses, from all of them at once.
-clauses : {A B : Type 0} → A × (B → record { buffer : A; answer : B }
+clauses : {A B : Type 0} → A × B → record { buffer : A; answer : B }
 clauses p = record { buffer = p.0; answer = p.1 }
 
 pub put_bad-end-requires : goal.put_bad-end-requires

@@ -5,7 +5,7 @@ use Rattle.trace.proofs.Blocks.{Running, running_starts, running_more, ends_full
 use Rattle.trace.proofs.feed.Goals as goal
 
 -- The clauses, from all of them at once.
-clauses : {A B C D : Type 0} → A × (B × (C × (D)) → record { answer : A; frame : B; buffer : C; within : D }
+clauses : {A B C D : Type 0} → A × (B × (C × D)) → record { answer : A; frame : B; buffer : C; within : D }
 clauses p = record { answer = p.0; frame = p.1.0; buffer = p.1.1.0; within = p.1.1.1 }
 
 pub loop-i-init : goal.loop-i-init

@@ -14,8 +14,7 @@ returns-then-sums-ge-MAX_LINES c = let a = c.args in
 
 pub returns-then-used-text : goal.returns-then-used-text
 returns-then-used-text c = let a = c.args in
-    let e = c.take_part-part.ensures in
-    turn_part a.s (search rules) a.text.now a.frame.now (search rules) a.out.now _ _ a.to _ e.0 (search rules) (search rules) e.1.0 e.1.1
+    turn_part a.s (search rules) a.text.now a.frame.now (search rules) a.out.now _ _ a.to _ c.take_part-part.ensures.used (search rules) (search rules) c.take_part-part.ensures.line c.take_part-part.ensures.frame
 
 pub overflow_add-next : goal.overflow_add-next
 overflow_add-next c = let z = line_most c.args.text.now in
@@ -24,6 +23,4 @@ overflow_add-next c = let z = line_most c.args.text.now in
 
 pub returns : goal.returns
 returns c = let a = c.args in
-    let e = c.take_part-part.ensures in
-    let l = c.end_line-e.ensures in
-    turn_line a.s (search rules) a.text.now a.frame.now (search rules) a.out.now _ _ _ _ a.to _ e.0 (search rules) (search rules) e.1.0 e.1.1 l.0 l.1
+    turn_line a.s (search rules) a.text.now a.frame.now (search rules) a.out.now _ _ _ _ a.to _ c.take_part-part.ensures.used (search rules) (search rules) c.take_part-part.ensures.line c.take_part-part.ensures.frame c.end_line-e.ensures.buffer c.end_line-e.ensures.answer

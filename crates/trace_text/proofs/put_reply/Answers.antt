@@ -7,7 +7,7 @@ use Rattle.error_reply.specs.declared.ReplyKind.{ReplyKind}
 use Rattle.trace_text.proofs.put_reply.Goals as goal
 
 -- The clauses, from all of them at once.
-clauses : {A B : Type 0} → A × (B → record { buffer : A; end : B }
+clauses : {A B : Type 0} → A × B → record { buffer : A; end : B }
 clauses p = record { buffer = p.0; end = p.1 }
 
 pub put_text-requires : goal.put_text-requires
@@ -24,12 +24,12 @@ put_text-requires-in-Chunk c = let size = ap (λ (k : ReplyKind). length (reply_
 
 pub returns-in-None : goal.returns-in-None
 unfolding reply_text ascii
-returns-in-None c = clauses (rw c.in-None.is c.put_text.ensures)
+returns-in-None c = clauses (rw c.in-None.is (c.put_text.ensures.buffer, c.put_text.ensures.end))
 
 pub returns-in-Version : goal.returns-in-Version
 unfolding reply_text ascii
-returns-in-Version c = clauses (rw c.in-Version.is c.put_text-in-Version.ensures)
+returns-in-Version c = clauses (rw c.in-Version.is (c.put_text-in-Version.ensures.buffer, c.put_text-in-Version.ensures.end))
 
 pub returns-in-Chunk : goal.returns-in-Chunk
 unfolding reply_text ascii
-returns-in-Chunk c = clauses (rw c.in-Chunk.is c.put_text-in-Chunk.ensures)
+returns-in-Chunk c = clauses (rw c.in-Chunk.is (c.put_text-in-Chunk.ensures.buffer, c.put_text-in-Chunk.ensures.end))

@@ -5,7 +5,7 @@ use Rattle.trace_text.proofs.Texts.{number_behind, sums_length}
 use Rattle.trace_text.proofs.put_sums.Goals as goal
 
 -- The clauses, from all of them at once.
-clauses : {A B : Type 0} → A × (B → record { buffer : A; end : B }
+clauses : {A B : Type 0} → A × B → record { buffer : A; end : B }
 clauses p = record { buffer = p.0; end = p.1 }
 
 pub put_number-a-requires : goal.put_number-a-requires
@@ -25,7 +25,7 @@ put_text-requires c = let size = sums_length c.args.t in search rules
 
 pub returns : goal.returns
 unfolding sums_text ascii
-returns c = clauses (number_behind (ascii "accepted ") _ _ _ _ c.put_number-a.ensures
-    (number_behind (ascii " refused ") _ _ _ _ c.put_number-b.ensures
-    (number_behind (ascii " bad ") _ _ _ _ c.put_number-c.ensures
-    (number_behind (ascii " payload ") _ _ _ _ c.put_number-d.ensures c.put_text.ensures))))
+returns c = clauses (number_behind (ascii "accepted ") _ _ _ _ (c.put_number-a.ensures.buffer, c.put_number-a.ensures.end)
+    (number_behind (ascii " refused ") _ _ _ _ (c.put_number-b.ensures.buffer, c.put_number-b.ensures.end)
+    (number_behind (ascii " bad ") _ _ _ _ (c.put_number-c.ensures.buffer, c.put_number-c.ensures.end)
+    (number_behind (ascii " payload ") _ _ _ _ (c.put_number-d.ensures.buffer, c.put_number-d.ensures.end) (c.put_text.ensures.buffer, c.put_text.ensures.end)))))

@@ -5,7 +5,7 @@ use Rattle.trace_text.proofs.Texts.{behind, number_behind, verdict_length}
 use Rattle.trace_text.proofs.put_verdict.Goals as goal
 
 -- The clauses, from all of them at once.
-clauses : {A B : Type 0} → A × (B → record { buffer : A; end : B }
+clauses : {A B : Type 0} → A × B → record { buffer : A; end : B }
 clauses p = record { buffer = p.0; end = p.1 }
 
 pub put_decimal-a-requires : goal.put_decimal-a-requires
@@ -22,6 +22,6 @@ put_reply-requires c = let a = c.args in let size = verdict_length a.number a.v 
 
 pub returns : goal.returns
 unfolding verdict_text ascii
-returns c = clauses (behind _ _ _ _ c.put_decimal-a.ensures
-    (number_behind (ascii " ") _ _ _ _ c.put_number-b.ensures
-    (number_behind (ascii " ") _ _ _ _ c.put_number-c.ensures c.put_reply.ensures)))
+returns c = clauses (behind _ _ _ _ (c.put_decimal-a.ensures.buffer, c.put_decimal-a.ensures.end)
+    (number_behind (ascii " ") _ _ _ _ (c.put_number-b.ensures.buffer, c.put_number-b.ensures.end)
+    (number_behind (ascii " ") _ _ _ _ (c.put_number-c.ensures.buffer, c.put_number-c.ensures.end) (c.put_reply.ensures.buffer, c.put_reply.ensures.end))))

@@ -9,19 +9,17 @@ use Rattle.wire.proofs.Fields.{then}
 use Rattle.header.specs.Bytes.{error_bytes}
 use Rattle.writer.proofs.encode_error.Goals as goal
 
--- There is room for the three words of a version error.
-room : (c : tie.After-e) → 28 ≤ length c.before.before.before.args.out.now
-unfolding error_bytes word_bytes
-room c = simp c.e.given.1 at c.before.before.before.requires
-
 pub put_word-requires : goal.put_word-requires
-put_word-requires c = let h = room c in omega arith
+put_word-requires c = let room : 28 ≤ length c.args.out.now = simp c.in-Version.is at c.requires in
+    let h = room in omega arith
 
 pub put_word-requires-in-Version : goal.put_word-requires-in-Version
-put_word-requires-in-Version c = let h = room c in omega arith
+put_word-requires-in-Version c = let room : 28 ≤ length c.args.out.now = simp c.in-Version.is at c.requires in
+    let h = room in omega arith
 
 pub put_word-requires-in-Version-2 : goal.put_word-requires-in-Version-2
-put_word-requires-in-Version-2 c = let h = room c in omega arith
+put_word-requires-in-Version-2 c = let room : 28 ≤ length c.args.out.now = simp c.in-Version.is at c.requires in
+    let h = room in omega arith
 
 pub put_word-requires-in-Chunk : goal.put_word-requires-in-Chunk
 unfolding error_bytes word_bytes

@@ -20,34 +20,6 @@ use Rattle.writer.proofs.HeaderWriting.{Passed, passed, sized}
 use Rattle.writer.proofs.Entries.{entries_fault, entries_fine}
 use Rattle.writer.proofs.write_number.Goals as goal
 
--- The entry, from behind the check of the limits, and the header that the words hold.
-abbrev entry : tie.Else2 → tie.Start
-entry c = c.before.before.before.before.before.before.before.before.before
-
-abbrev lent : tie.Else2 → List ℕ
-lent c = (entry c).args.words.now
-
-abbrev held : tie.Else2 → Header
-held c = header_as (lent c) (entry c).args.kind (entry c).args.present
-
--- What that check has shown.
-within : (c : tie.Else2) → limits_kept (lent c) (entry c).args.present ≡ true
-within c = sym (c.before.within_limits.ensures (counts_in (lent c)) c.before.before.total-count.ensures) ∙ not-false c.before.within_limits.result c.if2.false
-
-known : (c : tie.Else2) → Passed (lent c) (entry c).args.present
-known c = passed (lent c) (entry c).args.present (entry c).requires (within c)
-
--- The number then, and the number behind the check of the read entries.
-then_entries : (c : tie.Else2) → let n = length (header_bytes (content_of (held c))) in write_number (held c) (entry c).args.room ≡ entries_number (take (get_or (lent c) read_count_at 0) (reads_in (lent c))) (check (leb n (entry c).args.room) 16 0)
-unfolding write_number content_of
-then_entries c = simp (← c.before.before.before.before.bare-if-error.ensures, not-false c.before.before.before.before.bare-if-error.result c.before.before.before.if1.false, within c)
-
-then_length : (c : tie.After-header-length) → let n = c.header-length.result in write_number (held c.before.before.before) (entry c.before.before.before).args.room ≡ check (leb n (entry c.before.before.before).args.room) 16 0
-then_length c =
-    let limits = c.before.before.before in
-    let size = sized (lent limits) (entry limits).args.kind (entry limits).args.present c.header-length.result (known limits) (λ parts e. c.header-length.ensures parts (rw limits.before.before.total-count.ensures e)) in
-    then_entries limits ∙ simp (entries_fine _ (sym c.before.before.check-entries.ensures ∙ c.before.if3.false), size)
-
 pub overflow_cast-reads : goal.overflow_cast-reads
 overflow_cast-reads c = let small = c.shared_slice_known-2-1.given 228 in search rules
 
@@ -67,16 +39,38 @@ returns-then-not-within_limits c = let limits = c.within_limits.ensures (counts_
     simp (← c.bare_if_error.ensures, c.if-not-bare_if_error.false, ← limits, c.if-not-within_limits.true)
 
 pub check_entries-fault-requires : goal.check_entries-fault-requires
-check_entries-fault-requires c = let k = known c in (k.few.reads, omega arith)
+check_entries-fault-requires c = let lent : List ℕ = c.args.words.now in
+    let within : limits_kept lent c.args.present ≡ true = sym (c.within_limits.ensures (counts_in lent) c.total_count-segments.ensures) ∙ c.if-not-within_limits.false in
+    let known : Passed lent c.args.present = passed lent c.args.present c.requires within in
+    let k = known in (k.few.reads, omega arith)
 
 pub returns-then-fault-ne0 : goal.returns-then-fault-ne0
-returns-then-fault-ne0 c = sym (then_entries c ∙ entries_fault _ (λ e. c.if-fault-ne0.true (c.check_entries-fault.ensures ∙ e)) _ ∙ sym c.check_entries-fault.ensures)
+returns-then-fault-ne0 c = let lent : List ℕ = c.args.words.now in
+    let held : Header = header_as lent c.args.kind c.args.present in
+    let within : limits_kept lent c.args.present ≡ true = sym (c.within_limits.ensures (counts_in lent) c.total_count-segments.ensures) ∙ c.if-not-within_limits.false in
+    let then_entries : let n = length (header_bytes (content_of held)) in write_number held c.args.room ≡ entries_number (take (get_or lent read_count_at 0) (reads_in lent)) (check (leb n c.args.room) 16 0) = simp (← c.bare_if_error.ensures, c.if-not-bare_if_error.false, within) in
+    sym (then_entries ∙ entries_fault _ (λ e. c.if-fault-ne0.true (c.check_entries-fault.ensures ∙ e)) _ ∙ sym c.check_entries-fault.ensures)
 
 pub header_length-length-requires : goal.header_length-length-requires
-header_length-length-requires c = let k = known c in (k.few.reads, k.few.chunks, rw c.total_count-segments.ensures k.few.segments, k.few.replies)
+header_length-length-requires c = let lent : List ℕ = c.args.words.now in
+    let within : limits_kept lent c.args.present ≡ true = sym (c.within_limits.ensures (counts_in lent) c.total_count-segments.ensures) ∙ c.if-not-within_limits.false in
+    let known : Passed lent c.args.present = passed lent c.args.present c.requires within in
+    let k = known in (k.few.reads, k.few.chunks, rw c.total_count-segments.ensures k.few.segments, k.few.replies)
 
 pub returns-then-room-length : goal.returns-then-room-length
-returns-then-room-length c = sym (then_length c ∙ simp (lt-leb c.header_length-length.result (entry c).args.room c.if-room-length.true))
+returns-then-room-length c = let lent : List ℕ = c.args.words.now in
+    let held : Header = header_as lent c.args.kind c.args.present in
+    let within : limits_kept lent c.args.present ≡ true = sym (c.within_limits.ensures (counts_in lent) c.total_count-segments.ensures) ∙ c.if-not-within_limits.false in
+    let known : Passed lent c.args.present = passed lent c.args.present c.requires within in
+    let then_entries : let n = length (header_bytes (content_of held)) in write_number held c.args.room ≡ entries_number (take (get_or lent read_count_at 0) (reads_in lent)) (check (leb n c.args.room) 16 0) = simp (← c.bare_if_error.ensures, c.if-not-bare_if_error.false, within) in
+    let then_length : let n = c.header_length-length.result in write_number held c.args.room ≡ check (leb n c.args.room) 16 0 = let limits = c in let size = sized lent limits.args.kind limits.args.present c.header_length-length.result known (λ parts e. c.header_length-length.ensures parts (rw limits.total_count-segments.ensures e)) in then_entries ∙ simp (entries_fine _ (sym c.check_entries-fault.ensures ∙ c.if-fault-ne0.false), size) in
+    sym (then_length ∙ simp (lt-leb c.header_length-length.result c.args.room c.if-room-length.true))
 
 pub returns : goal.returns
-returns c = sym (then_length c ∙ simp (le-leb c.header_length-length.result (entry c).args.room c.if-room-length.false))
+returns c = let lent : List ℕ = c.args.words.now in
+    let held : Header = header_as lent c.args.kind c.args.present in
+    let within : limits_kept lent c.args.present ≡ true = sym (c.within_limits.ensures (counts_in lent) c.total_count-segments.ensures) ∙ c.if-not-within_limits.false in
+    let known : Passed lent c.args.present = passed lent c.args.present c.requires within in
+    let then_entries : let n = length (header_bytes (content_of held)) in write_number held c.args.room ≡ entries_number (take (get_or lent read_count_at 0) (reads_in lent)) (check (leb n c.args.room) 16 0) = simp (← c.bare_if_error.ensures, c.if-not-bare_if_error.false, within) in
+    let then_length : let n = c.header_length-length.result in write_number held c.args.room ≡ check (leb n c.args.room) 16 0 = let limits = c in let size = sized lent limits.args.kind limits.args.present c.header_length-length.result known (λ parts e. c.header_length-length.ensures parts (rw limits.total_count-segments.ensures e)) in then_entries ∙ simp (entries_fine _ (sym c.check_entries-fault.ensures ∙ c.if-fault-ne0.false), size) in
+    sym (then_length ∙ simp (le-leb c.header_length-length.result c.args.room c.if-room-length.false))

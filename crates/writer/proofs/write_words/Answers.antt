@@ -9,7 +9,7 @@ use borrow.Author.Rules.{rules}
 use Rattle.writer.proofs.write_words.Goals as goal
 
 -- The clauses, from all of them at once.
-clauses : {A B C : Type 0} → A × (B × (C) → record { answer : A; size : B; buffer : C }
+clauses : {A B C : Type 0} → A × (B × C) → record { answer : A; size : B; buffer : C }
 clauses p = record { answer = p.0; size = p.1.0; buffer = p.1.1 }
 
 pub returns-in_default : goal.returns-in_default
