@@ -88,10 +88,10 @@ reply_within false n h = omega arith
 reply_within true n h = omega arith
 
 -- A kind that is not an ERROR goes on with its parts.
-pub not_error : (kind : Kind) → OneOf (0 ∷ 1 ∷ []) (tag_of the_type kind) → (parts : List ℕ) → rest_bytes kind parts ≡ parts
+pub not_error : (kind : Kind) → ((e : ErrorKind) → kind ≡ Error e → ⊥) → (parts : List ℕ) → rest_bytes kind parts ≡ parts
 not_error Msg h parts = refl
 not_error Nomsg h parts = refl
-not_error (Error e) h parts = absurd (⊎_elim (λ z. omega arith) (λ z. omega arith) h)
+not_error (Error e) h parts = absurd (h e refl)
 
 -- An ERROR goes on with its error.
 pub an_error : (kind : Kind) (e : ErrorKind) → kind ≡ Error e → (parts : List ℕ) → rest_bytes kind parts ≡ error_bytes e

@@ -1,5 +1,6 @@
 -- `assembly_state::state_kind` meets its contract.
-use borrow.Author.Tests.{ne_eqb}
+use Rattle.std.proofs.Common.{arith}
+use Rattle.std.proofs.lemmas.Grind.{common_steps}
 use Rattle.assembly_state.specs.Words.{state_kind}
 use Rattle.assembly_state.proofs.state_kind.Goals as goal
 
@@ -13,4 +14,4 @@ returns-in-1 c = rw c.in-1.is
 
 pub returns-in_default : goal.returns-in_default
 unfolding state_kind
-returns-in_default c = simp (ne_eqb _ _ c.in-0.rest.1, ne_eqb _ _ c.in-0.rest.0.1)
+returns-in_default c = grind (arith, common_steps)

@@ -102,7 +102,7 @@ place_segment-goes-requires c = let all : length (read_places c.args.base (list 
     let some : 0 < c.smaller-m.result = let m = c.smaller-m.ensures in let l = c.if-length-left.false in let t = c.loop-j-test.true in omega arith in
     let most : (c.loop-j.left + c.smaller-m.result ≤ c.read_segment_of-x.result.target.length) × (c.loop-j.j + c.smaller-m.result ≤ length c.args.piece.now) = let m = share in let l = rw c.wide-length.ensures.0 at c.if-length-left.false in let t = c.loop-j-test.true in (omega arith, omega arith) in
     let part : PartAt c.args.base (list c.args.words.now c.args.n) (take c.loop-j.i (list c.args.words.now c.args.n)) c.loop-j.i c.read_segment_of-x.result c.loop-j.left c.smaller-m.result = part_at c.args.base _ c.loop-j.i c.read_segment_of-x.result c.requires.1 c.requires.2 at c.loop-j.left c.smaller-m.result some most.0 in
-    let cut : (take (c.loop-j.j + c.smaller-m.result - c.loop-j.j) (drop c.loop-j.j c.args.piece.now) ≡ take c.smaller-m.result (drop c.loop-j.j c.args.piece.now)) × (length (take c.smaller-m.result (drop c.loop-j.j c.args.piece.now)) ≡ c.smaller-m.result) = part_length c.loop-j.j c.smaller-m.result c.args.piece.now most.1 made : (c : tie.After-place-segment invariant-loop decreases-loop) → let ps = part_places c.args.base (other_chunks (list c.args.words.now c.args.n)) c.read_segment_of-x.result.position (position_length c.read_segment_of-x.result.position (take c.loop-j.i (list c.args.words.now c.args.n)) + c.loop-j.left) c.smaller-m.result in (c.place_segment-goes.result ≡ goes (of_segment 0 ps)) × (c.place_segment-goes.new.out ≡ scatter ps (take c.smaller-m.result (drop c.loop-j.j c.args.piece.now)) c.loop-j.out) made c = rw (cut.0, cut.1, before) at (c.place_segment-goes.ensures.answer, c.place_segment-goes.ensures.buffer) in
+    let cut : (take (c.loop-j.j + c.smaller-m.result - c.loop-j.j) (drop c.loop-j.j c.args.piece.now) ≡ take c.smaller-m.result (drop c.loop-j.j c.args.piece.now)) × (length (take c.smaller-m.result (drop c.loop-j.j c.args.piece.now)) ≡ c.smaller-m.result) = part_length c.loop-j.j c.smaller-m.result c.args.piece.now most.1 in
     let room = rw (sym c.loop-j.invariant.4) at c.requires.3 in
     let w = part.within _ room in
     (c.requires.0, c.requires.1, room, rw (cut.0, cut.1, before) w, rw (cut.0, cut.1) some, c.requires.5)
@@ -112,11 +112,14 @@ overflow_add-goes c = let all : length (read_places c.args.base (list c.args.wor
     let there : c.loop-j.i < c.args.n = let sum = all in let within = c.requires.4 in still_there (list c.args.words.now c.args.n) c.args.n c.loop-j.i c.args.count c.loop-j.j (length c.args.piece.now) c.loop-j.left (length-take-le c.args.n (reads_in c.args.words.now) (rw length_reads c.requires.0)) c.loop-j.invariant.0 c.loop-j.invariant.2 (omega arith) c.loop-j-test.true in
     let here : drop c.loop-j.i (list c.args.words.now c.args.n) ≡ c.read_segment_of-x.result ∷ drop (c.loop-j.i + 1) (list c.args.words.now c.args.n) = segment_here c.args.n c.loop-j.i (reads_in c.args.words.now) (length_reads _) c.requires.0 _ c.read_segment_of-x.ensures there in
     let at : SegmentAt (list c.args.words.now c.args.n) c.loop-j.i c.read_segment_of-x.result = segment_at_lem _ _ _ (rw (length-take-le c.args.n (reads_in c.args.words.now) (rw length_reads c.requires.0)) there) here in
+    let before : c.bytes_at-before.result ≡ position_length c.read_segment_of-x.result.position (take c.loop-j.i (list c.args.words.now c.args.n)) = hand_before _ c.loop-j.i c.loop-j.chunk c.read_segment_of-x.result here c.loop-j.invariant.3 _ (rw c.wide-position.ensures.0 at c.bytes_at-before.ensures) in
     let share : c.smaller-m.result ≡ min (c.read_segment_of-x.result.target.length - c.loop-j.left) (length c.args.piece.now - c.loop-j.j) = rw (← c.wide-length.ensures.0) c.smaller-m.ensures in
     let some : 0 < c.smaller-m.result = let m = c.smaller-m.ensures in let l = c.if-length-left.false in let t = c.loop-j-test.true in omega arith in
     let most : (c.loop-j.left + c.smaller-m.result ≤ c.read_segment_of-x.result.target.length) × (c.loop-j.j + c.smaller-m.result ≤ length c.args.piece.now) = let m = share in let l = rw c.wide-length.ensures.0 at c.if-length-left.false in let t = c.loop-j-test.true in (omega arith, omega arith) in
     let part : PartAt c.args.base (list c.args.words.now c.args.n) (take c.loop-j.i (list c.args.words.now c.args.n)) c.loop-j.i c.read_segment_of-x.result c.loop-j.left c.smaller-m.result = part_at c.args.base _ c.loop-j.i c.read_segment_of-x.result c.requires.1 c.requires.2 at c.loop-j.left c.smaller-m.result some most.0 in
-    let counted : c.loop-j.goes + c.place_segment-goes.result + goes (take (length c.args.piece.now - (c.loop-j.j + c.smaller-m.result)) (drop (c.args.count + (c.loop-j.j + c.smaller-m.result)) (bytes c.args.words.now c.args.n c.args.base))) ≡ goes (take (length c.args.piece.now) (drop c.args.count (bytes c.args.words.now c.args.n c.args.base))) = part_counted c.args.base _ _ c.loop-j.i c.read_segment_of-x.result c.loop-j.left c.smaller-m.result part c.args.count c.loop-j.j c.loop-j.invariant.2 c.args.piece.now c.loop-j-test.true some share c.loop-j.goes _ _ c.loop-j.invariant.6 (made c).0 in
+    let cut : (take (c.loop-j.j + c.smaller-m.result - c.loop-j.j) (drop c.loop-j.j c.args.piece.now) ≡ take c.smaller-m.result (drop c.loop-j.j c.args.piece.now)) × (length (take c.smaller-m.result (drop c.loop-j.j c.args.piece.now)) ≡ c.smaller-m.result) = part_length c.loop-j.j c.smaller-m.result c.args.piece.now most.1 in
+    let made : let ps = part_places c.args.base (other_chunks (list c.args.words.now c.args.n)) c.read_segment_of-x.result.position (position_length c.read_segment_of-x.result.position (take c.loop-j.i (list c.args.words.now c.args.n)) + c.loop-j.left) c.smaller-m.result in (c.place_segment-goes.result ≡ goes (of_segment 0 ps)) × (c.place_segment-goes.new.out ≡ scatter ps (take c.smaller-m.result (drop c.loop-j.j c.args.piece.now)) c.loop-j.out) = rw (cut.0, cut.1, before) at (c.place_segment-goes.ensures.answer, c.place_segment-goes.ensures.buffer) in
+    let counted : c.loop-j.goes + c.place_segment-goes.result + goes (take (length c.args.piece.now - (c.loop-j.j + c.smaller-m.result)) (drop (c.args.count + (c.loop-j.j + c.smaller-m.result)) (bytes c.args.words.now c.args.n c.args.base))) ≡ goes (take (length c.args.piece.now) (drop c.args.count (bytes c.args.words.now c.args.n c.args.base))) = part_counted c.args.base _ _ c.loop-j.i c.read_segment_of-x.result c.loop-j.left c.smaller-m.result part c.args.count c.loop-j.j c.loop-j.invariant.2 c.args.piece.now c.loop-j-test.true some share c.loop-j.goes _ _ c.loop-j.invariant.6 made.0 in
     let sum = counted in
     let few = most_goes c.args.base (list c.args.words.now c.args.n) (rw (length-take-le c.args.n (reads_in c.args.words.now) (rw length_reads c.requires.0)) c.requires.0) c.requires.1 c.requires.2 c.args.count (length c.args.piece.now) in
     record { fits = omega arith }
@@ -146,12 +149,15 @@ loop-j-preserved c = let all : length (read_places c.args.base (list c.args.word
     let there : c.loop-j.i < c.args.n = let sum = all in let within = c.requires.4 in still_there (list c.args.words.now c.args.n) c.args.n c.loop-j.i c.args.count c.loop-j.j (length c.args.piece.now) c.loop-j.left (length-take-le c.args.n (reads_in c.args.words.now) (rw length_reads c.requires.0)) c.loop-j.invariant.0 c.loop-j.invariant.2 (omega arith) c.loop-j-test.true in
     let here : drop c.loop-j.i (list c.args.words.now c.args.n) ≡ c.read_segment_of-x.result ∷ drop (c.loop-j.i + 1) (list c.args.words.now c.args.n) = segment_here c.args.n c.loop-j.i (reads_in c.args.words.now) (length_reads _) c.requires.0 _ c.read_segment_of-x.ensures there in
     let at : SegmentAt (list c.args.words.now c.args.n) c.loop-j.i c.read_segment_of-x.result = segment_at_lem _ _ _ (rw (length-take-le c.args.n (reads_in c.args.words.now) (rw length_reads c.requires.0)) there) here in
+    let before : c.bytes_at-before.result ≡ position_length c.read_segment_of-x.result.position (take c.loop-j.i (list c.args.words.now c.args.n)) = hand_before _ c.loop-j.i c.loop-j.chunk c.read_segment_of-x.result here c.loop-j.invariant.3 _ (rw c.wide-position.ensures.0 at c.bytes_at-before.ensures) in
     let share : c.smaller-m.result ≡ min (c.read_segment_of-x.result.target.length - c.loop-j.left) (length c.args.piece.now - c.loop-j.j) = rw (← c.wide-length.ensures.0) c.smaller-m.ensures in
     let some : 0 < c.smaller-m.result = let m = c.smaller-m.ensures in let l = c.if-length-left.false in let t = c.loop-j-test.true in omega arith in
     let most : (c.loop-j.left + c.smaller-m.result ≤ c.read_segment_of-x.result.target.length) × (c.loop-j.j + c.smaller-m.result ≤ length c.args.piece.now) = let m = share in let l = rw c.wide-length.ensures.0 at c.if-length-left.false in let t = c.loop-j-test.true in (omega arith, omega arith) in
     let part : PartAt c.args.base (list c.args.words.now c.args.n) (take c.loop-j.i (list c.args.words.now c.args.n)) c.loop-j.i c.read_segment_of-x.result c.loop-j.left c.smaller-m.result = part_at c.args.base _ c.loop-j.i c.read_segment_of-x.result c.requires.1 c.requires.2 at c.loop-j.left c.smaller-m.result some most.0 in
-    let put : c.place_segment-goes.new.out ≡ scatter (drop c.args.count (read_places c.args.base (list c.args.words.now c.args.n))) (take (c.loop-j.j + c.smaller-m.result) c.args.piece.now) c.args.out.now = part_placed c.args.base _ _ c.loop-j.i c.read_segment_of-x.result c.loop-j.left c.smaller-m.result part c.args.count c.loop-j.j c.loop-j.invariant.2 c.args.piece.now c.loop-j-test.true some share _ c.loop-j.out _ c.loop-j.invariant.5 (made c).1 in
-    let counted : c.loop-j.goes + c.place_segment-goes.result + goes (take (length c.args.piece.now - (c.loop-j.j + c.smaller-m.result)) (drop (c.args.count + (c.loop-j.j + c.smaller-m.result)) (bytes c.args.words.now c.args.n c.args.base))) ≡ goes (take (length c.args.piece.now) (drop c.args.count (bytes c.args.words.now c.args.n c.args.base))) = part_counted c.args.base _ _ c.loop-j.i c.read_segment_of-x.result c.loop-j.left c.smaller-m.result part c.args.count c.loop-j.j c.loop-j.invariant.2 c.args.piece.now c.loop-j-test.true some share c.loop-j.goes _ _ c.loop-j.invariant.6 (made c).0 in
+    let cut : (take (c.loop-j.j + c.smaller-m.result - c.loop-j.j) (drop c.loop-j.j c.args.piece.now) ≡ take c.smaller-m.result (drop c.loop-j.j c.args.piece.now)) × (length (take c.smaller-m.result (drop c.loop-j.j c.args.piece.now)) ≡ c.smaller-m.result) = part_length c.loop-j.j c.smaller-m.result c.args.piece.now most.1 in
+    let made : let ps = part_places c.args.base (other_chunks (list c.args.words.now c.args.n)) c.read_segment_of-x.result.position (position_length c.read_segment_of-x.result.position (take c.loop-j.i (list c.args.words.now c.args.n)) + c.loop-j.left) c.smaller-m.result in (c.place_segment-goes.result ≡ goes (of_segment 0 ps)) × (c.place_segment-goes.new.out ≡ scatter ps (take c.smaller-m.result (drop c.loop-j.j c.args.piece.now)) c.loop-j.out) = rw (cut.0, cut.1, before) at (c.place_segment-goes.ensures.answer, c.place_segment-goes.ensures.buffer) in
+    let put : c.place_segment-goes.new.out ≡ scatter (drop c.args.count (read_places c.args.base (list c.args.words.now c.args.n))) (take (c.loop-j.j + c.smaller-m.result) c.args.piece.now) c.args.out.now = part_placed c.args.base _ _ c.loop-j.i c.read_segment_of-x.result c.loop-j.left c.smaller-m.result part c.args.count c.loop-j.j c.loop-j.invariant.2 c.args.piece.now c.loop-j-test.true some share _ c.loop-j.out _ c.loop-j.invariant.5 made.1 in
+    let counted : c.loop-j.goes + c.place_segment-goes.result + goes (take (length c.args.piece.now - (c.loop-j.j + c.smaller-m.result)) (drop (c.args.count + (c.loop-j.j + c.smaller-m.result)) (bytes c.args.words.now c.args.n c.args.base))) ≡ goes (take (length c.args.piece.now) (drop c.args.count (bytes c.args.words.now c.args.n c.args.base))) = part_counted c.args.base _ _ c.loop-j.i c.read_segment_of-x.result c.loop-j.left c.smaller-m.result part c.args.count c.loop-j.j c.loop-j.invariant.2 c.args.piece.now c.loop-j-test.true some share c.loop-j.goes _ _ c.loop-j.invariant.6 made.0 in
     let sum = c.loop-j.invariant.2 in
     (c.loop-j.invariant.0, most.1, omega arith, c.loop-j.invariant.3, ap length put ∙ length_scatter _ _ _, put, counted)
 

@@ -74,19 +74,25 @@ overflow_add-goes c = let few : goes (of_segment 0 (take (length c.args.piece.no
     record { fits = one_more _ _ _ _ c.place_gap-m.result c.loop-i.invariant.6 few c.goes_for-goes.ensures }
 
 pub overflow_add-j : goal.overflow_add-j
-overflow_add-j c = let known : Here (non_empty (drop c.loop-i.i (list c.args.words.now c.args.n))) (non_empty (drop (c.loop-i.i + 1) (list c.args.words.now c.args.n))) c.loop-i.i c.loop-i.earlier c.loop-i.w c.read_segment_of-x.result = some_here _ c.loop-i.i _ _ c.loop-i.w (length_reads _) c.requires.0 c.loop-i.invariant.1 _ c.read_segment_of-x.ensures c.loop-i-test.true c.if-target-eq0.false in
-    let ended : c.rounded-earlier.result ≡ rounded_up (ended_length c.loop-i.w c.read_segment_of-x.result) = rw (← c.ended_length.ensures) c.rounded-earlier.ensures.0 in
-    let share : c.place_gap-m.result ≡ min (c.read_segment_of-x.result.position - (c.args.count + c.loop-i.j + (c.loop-i.earlier + c.rounded-earlier.result))) (length c.args.piece.now - c.loop-i.j) = rw (← c.wide-position.ensures.0, ← (length-drop c.loop-i.j c.args.piece.now), ← (part_from c.loop-i.j c.args.piece.now)) c.place_gap-m.ensures.answer step : (c : tie.After-place-gap invariant-loop decreases-loop) → GapStep (some_places c.args.words.now c.args.n c.args.base) c.args.count c.loop-i.j c.place_gap-m.result (c.args.count + c.loop-i.j + (c.loop-i.earlier + c.rounded-earlier.result)) c.args.piece.now c.args.out.now c.loop-i.out c.loop-i.goes (goes (of_segment 0 (take (length c.args.piece.now) (drop c.args.count (some_places c.args.words.now c.args.n c.args.base))))) (GapSought c.args.base (other_chunks (non_empty (list c.args.words.now c.args.n))) (c.args.count + (c.loop-i.j + c.place_gap-m.result)) (c.loop-i.earlier + c.rounded-earlier.result) (joined_run c.loop-i.w c.read_segment_of-x.result) (non_empty (drop (c.loop-i.i + 1) (list c.args.words.now c.args.n)))) step c = let h = known in gap_step c.args.base _ c.loop-i.w c.loop-i.earlier c.read_segment_of-x.result _ h.walk c.args.count c.loop-i.j (rw h.rest at c.loop-i.invariant.5) _ ended c.args.piece.now c.loop-i.invariant.3 _ share _ c.loop-i.out c.loop-i.goes _ c.loop-i.invariant.4 c.loop-i.invariant.6 in
+overflow_add-j c = let share : c.place_gap-m.result ≡ min (c.read_segment_of-x.result.position - (c.args.count + c.loop-i.j + (c.loop-i.earlier + c.rounded-earlier.result))) (length c.args.piece.now - c.loop-i.j) = rw (← c.wide-position.ensures.0, ← (length-drop c.loop-i.j c.args.piece.now), ← (part_from c.loop-i.j c.args.piece.now)) c.place_gap-m.ensures.answer in
     let s = share in let more = c.loop-i.invariant.3 in record { fits = omega arith }
 
 pub shape_of-out-then-j-size : goal.shape_of-out-then-j-size
-shape_of-out-then-j-size c = let put : c.place_gap-m.new.out ≡ scatter (drop c.args.count (some_places c.args.words.now c.args.n c.args.base)) (take (c.loop-i.j + c.place_gap-m.result) c.args.piece.now) c.args.out.now = (step c).placed _ (rw (← c.place_gap-m.ensures.answer, part_from c.loop-i.j c.args.piece.now) at c.place_gap-m.ensures.buffer) in
+shape_of-out-then-j-size c = let known : Here (non_empty (drop c.loop-i.i (list c.args.words.now c.args.n))) (non_empty (drop (c.loop-i.i + 1) (list c.args.words.now c.args.n))) c.loop-i.i c.loop-i.earlier c.loop-i.w c.read_segment_of-x.result = some_here _ c.loop-i.i _ _ c.loop-i.w (length_reads _) c.requires.0 c.loop-i.invariant.1 _ c.read_segment_of-x.ensures c.loop-i-test.true c.if-target-eq0.false in
+    let ended : c.rounded-earlier.result ≡ rounded_up (ended_length c.loop-i.w c.read_segment_of-x.result) = rw (← c.ended_length.ensures) c.rounded-earlier.ensures.0 in
+    let share : c.place_gap-m.result ≡ min (c.read_segment_of-x.result.position - (c.args.count + c.loop-i.j + (c.loop-i.earlier + c.rounded-earlier.result))) (length c.args.piece.now - c.loop-i.j) = rw (← c.wide-position.ensures.0, ← (length-drop c.loop-i.j c.args.piece.now), ← (part_from c.loop-i.j c.args.piece.now)) c.place_gap-m.ensures.answer in
+    let step : GapStep (some_places c.args.words.now c.args.n c.args.base) c.args.count c.loop-i.j c.place_gap-m.result (c.args.count + c.loop-i.j + (c.loop-i.earlier + c.rounded-earlier.result)) c.args.piece.now c.args.out.now c.loop-i.out c.loop-i.goes (goes (of_segment 0 (take (length c.args.piece.now) (drop c.args.count (some_places c.args.words.now c.args.n c.args.base))))) (GapSought c.args.base (other_chunks (non_empty (list c.args.words.now c.args.n))) (c.args.count + (c.loop-i.j + c.place_gap-m.result)) (c.loop-i.earlier + c.rounded-earlier.result) (joined_run c.loop-i.w c.read_segment_of-x.result) (non_empty (drop (c.loop-i.i + 1) (list c.args.words.now c.args.n)))) = let h = known in gap_step c.args.base _ c.loop-i.w c.loop-i.earlier c.read_segment_of-x.result _ h.walk c.args.count c.loop-i.j (rw h.rest at c.loop-i.invariant.5) _ ended c.args.piece.now c.loop-i.invariant.3 _ share _ c.loop-i.out c.loop-i.goes _ c.loop-i.invariant.4 c.loop-i.invariant.6 in
+    let put : c.place_gap-m.new.out ≡ scatter (drop c.args.count (some_places c.args.words.now c.args.n c.args.base)) (take (c.loop-i.j + c.place_gap-m.result) c.args.piece.now) c.args.out.now = step.placed _ (rw (← c.place_gap-m.ensures.answer, part_from c.loop-i.j c.args.piece.now) at c.place_gap-m.ensures.buffer) in
     ap length put ∙ length_scatter _ _ _
 
 pub returns-then-j-size : goal.returns-then-j-size
 returns-then-j-size c = clauses (let over : PassedOver c.args.base (list c.args.words.now c.args.n) = passed_over_lem _ _ c.requires.1.rise c.requires.1.stand in
-    let put : c.place_gap-m.new.out ≡ scatter (drop c.args.count (some_places c.args.words.now c.args.n c.args.base)) (take (c.loop-i.j + c.place_gap-m.result) c.args.piece.now) c.args.out.now = (step c).placed _ (rw (← c.place_gap-m.ensures.answer, part_from c.loop-i.j c.args.piece.now) at c.place_gap-m.ensures.buffer) in
-    let s = step c in
+    let known : Here (non_empty (drop c.loop-i.i (list c.args.words.now c.args.n))) (non_empty (drop (c.loop-i.i + 1) (list c.args.words.now c.args.n))) c.loop-i.i c.loop-i.earlier c.loop-i.w c.read_segment_of-x.result = some_here _ c.loop-i.i _ _ c.loop-i.w (length_reads _) c.requires.0 c.loop-i.invariant.1 _ c.read_segment_of-x.ensures c.loop-i-test.true c.if-target-eq0.false in
+    let ended : c.rounded-earlier.result ≡ rounded_up (ended_length c.loop-i.w c.read_segment_of-x.result) = rw (← c.ended_length.ensures) c.rounded-earlier.ensures.0 in
+    let share : c.place_gap-m.result ≡ min (c.read_segment_of-x.result.position - (c.args.count + c.loop-i.j + (c.loop-i.earlier + c.rounded-earlier.result))) (length c.args.piece.now - c.loop-i.j) = rw (← c.wide-position.ensures.0, ← (length-drop c.loop-i.j c.args.piece.now), ← (part_from c.loop-i.j c.args.piece.now)) c.place_gap-m.ensures.answer in
+    let step : GapStep (some_places c.args.words.now c.args.n c.args.base) c.args.count c.loop-i.j c.place_gap-m.result (c.args.count + c.loop-i.j + (c.loop-i.earlier + c.rounded-earlier.result)) c.args.piece.now c.args.out.now c.loop-i.out c.loop-i.goes (goes (of_segment 0 (take (length c.args.piece.now) (drop c.args.count (some_places c.args.words.now c.args.n c.args.base))))) (GapSought c.args.base (other_chunks (non_empty (list c.args.words.now c.args.n))) (c.args.count + (c.loop-i.j + c.place_gap-m.result)) (c.loop-i.earlier + c.rounded-earlier.result) (joined_run c.loop-i.w c.read_segment_of-x.result) (non_empty (drop (c.loop-i.i + 1) (list c.args.words.now c.args.n)))) = let h = known in gap_step c.args.base _ c.loop-i.w c.loop-i.earlier c.read_segment_of-x.result _ h.walk c.args.count c.loop-i.j (rw h.rest at c.loop-i.invariant.5) _ ended c.args.piece.now c.loop-i.invariant.3 _ share _ c.loop-i.out c.loop-i.goes _ c.loop-i.invariant.4 c.loop-i.invariant.6 in
+    let put : c.place_gap-m.new.out ≡ scatter (drop c.args.count (some_places c.args.words.now c.args.n c.args.base)) (take (c.loop-i.j + c.place_gap-m.result) c.args.piece.now) c.args.out.now = step.placed _ (rw (← c.place_gap-m.ensures.answer, part_from c.loop-i.j c.args.piece.now) at c.place_gap-m.ensures.buffer) in
+    let s = step in
     rw over.same_places
     (rw c.goes_for-goes.ensures (s.finished c.if-j-size.true), put ∙ rw (c.if-j-size.true, take-length)))
 
@@ -99,10 +105,11 @@ loop-i-smaller c = let lt = c.loop-i-test.true in less_left _ _ lt
 pub loop-i-preserved : goal.loop-i-preserved
 loop-i-preserved c = let known : Here (non_empty (drop c.loop-i.i (list c.args.words.now c.args.n))) (non_empty (drop (c.loop-i.i + 1) (list c.args.words.now c.args.n))) c.loop-i.i c.loop-i.earlier c.loop-i.w c.read_segment_of-x.result = some_here _ c.loop-i.i _ _ c.loop-i.w (length_reads _) c.requires.0 c.loop-i.invariant.1 _ c.read_segment_of-x.ensures c.loop-i-test.true c.if-target-eq0.false in
     let ended : c.rounded-earlier.result ≡ rounded_up (ended_length c.loop-i.w c.read_segment_of-x.result) = rw (← c.ended_length.ensures) c.rounded-earlier.ensures.0 in
-    let share : c.place_gap-m.result ≡ min (c.read_segment_of-x.result.position - (c.args.count + c.loop-i.j + (c.loop-i.earlier + c.rounded-earlier.result))) (length c.args.piece.now - c.loop-i.j) = rw (← c.wide-position.ensures.0, ← (length-drop c.loop-i.j c.args.piece.now), ← (part_from c.loop-i.j c.args.piece.now)) c.place_gap-m.ensures.answer step : (c : tie.After-place-gap invariant-loop decreases-loop) → GapStep (some_places c.args.words.now c.args.n c.args.base) c.args.count c.loop-i.j c.place_gap-m.result (c.args.count + c.loop-i.j + (c.loop-i.earlier + c.rounded-earlier.result)) c.args.piece.now c.args.out.now c.loop-i.out c.loop-i.goes (goes (of_segment 0 (take (length c.args.piece.now) (drop c.args.count (some_places c.args.words.now c.args.n c.args.base))))) (GapSought c.args.base (other_chunks (non_empty (list c.args.words.now c.args.n))) (c.args.count + (c.loop-i.j + c.place_gap-m.result)) (c.loop-i.earlier + c.rounded-earlier.result) (joined_run c.loop-i.w c.read_segment_of-x.result) (non_empty (drop (c.loop-i.i + 1) (list c.args.words.now c.args.n)))) step c = let h = known in gap_step c.args.base _ c.loop-i.w c.loop-i.earlier c.read_segment_of-x.result _ h.walk c.args.count c.loop-i.j (rw h.rest at c.loop-i.invariant.5) _ ended c.args.piece.now c.loop-i.invariant.3 _ share _ c.loop-i.out c.loop-i.goes _ c.loop-i.invariant.4 c.loop-i.invariant.6 in
-    let put : c.place_gap-m.new.out ≡ scatter (drop c.args.count (some_places c.args.words.now c.args.n c.args.base)) (take (c.loop-i.j + c.place_gap-m.result) c.args.piece.now) c.args.out.now = (step c).placed _ (rw (← c.place_gap-m.ensures.answer, part_from c.loop-i.j c.args.piece.now) at c.place_gap-m.ensures.buffer) in
+    let share : c.place_gap-m.result ≡ min (c.read_segment_of-x.result.position - (c.args.count + c.loop-i.j + (c.loop-i.earlier + c.rounded-earlier.result))) (length c.args.piece.now - c.loop-i.j) = rw (← c.wide-position.ensures.0, ← (length-drop c.loop-i.j c.args.piece.now), ← (part_from c.loop-i.j c.args.piece.now)) c.place_gap-m.ensures.answer in
+    let step : GapStep (some_places c.args.words.now c.args.n c.args.base) c.args.count c.loop-i.j c.place_gap-m.result (c.args.count + c.loop-i.j + (c.loop-i.earlier + c.rounded-earlier.result)) c.args.piece.now c.args.out.now c.loop-i.out c.loop-i.goes (goes (of_segment 0 (take (length c.args.piece.now) (drop c.args.count (some_places c.args.words.now c.args.n c.args.base))))) (GapSought c.args.base (other_chunks (non_empty (list c.args.words.now c.args.n))) (c.args.count + (c.loop-i.j + c.place_gap-m.result)) (c.loop-i.earlier + c.rounded-earlier.result) (joined_run c.loop-i.w c.read_segment_of-x.result) (non_empty (drop (c.loop-i.i + 1) (list c.args.words.now c.args.n)))) = let h = known in gap_step c.args.base _ c.loop-i.w c.loop-i.earlier c.read_segment_of-x.result _ h.walk c.args.count c.loop-i.j (rw h.rest at c.loop-i.invariant.5) _ ended c.args.piece.now c.loop-i.invariant.3 _ share _ c.loop-i.out c.loop-i.goes _ c.loop-i.invariant.4 c.loop-i.invariant.6 in
+    let put : c.place_gap-m.new.out ≡ scatter (drop c.args.count (some_places c.args.words.now c.args.n c.args.base)) (take (c.loop-i.j + c.place_gap-m.result) c.args.piece.now) c.args.out.now = step.placed _ (rw (← c.place_gap-m.ensures.answer, part_from c.loop-i.j c.args.piece.now) at c.place_gap-m.ensures.buffer) in
     let h = known in
-    let s = step c in
+    let s = step in
     let after = put in
     let further : c.loop-i.j + c.place_gap-m.result < length c.args.piece.now = (let near = share in let more = c.loop-i.invariant.3 in let left = c.if-j-size.false in not_all _ _ _ _ near more left) in
     let grown = rw c.ended_length.ensures at c.rounded-earlier.ensures.2 in

@@ -10,14 +10,17 @@ use Rattle.header.specs.Bytes.{error_bytes}
 use Rattle.writer.proofs.encode_error.Goals as goal
 
 pub put_word-requires : goal.put_word-requires
+unfolding error_bytes word_bytes
 put_word-requires c = let room : 28 ≤ length c.args.out.now = simp c.in-Version.is at c.requires in
     let h = room in omega arith
 
 pub put_word-requires-in-Version : goal.put_word-requires-in-Version
+unfolding error_bytes word_bytes
 put_word-requires-in-Version c = let room : 28 ≤ length c.args.out.now = simp c.in-Version.is at c.requires in
     let h = room in omega arith
 
 pub put_word-requires-in-Version-2 : goal.put_word-requires-in-Version-2
+unfolding error_bytes word_bytes
 put_word-requires-in-Version-2 c = let room : 28 ≤ length c.args.out.now = simp c.in-Version.is at c.requires in
     let h = room in omega arith
 

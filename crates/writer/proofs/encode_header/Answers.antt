@@ -11,12 +11,12 @@ encode_fixed-requires c = let a = c.args in let size = header_size a.words.now a
 
 pub encode_lists-requires : goal.encode_lists-requires
 encode_lists-requires c = let a = c.args in
-    let size = header_size a.words.now a.kind a.present _ (not_error a.kind c.in-Error.keys2 _) in
+    let size = header_size a.words.now a.kind a.present _ (not_error a.kind c.in_default.not-Error _) in
     (c.requires.0, c.requires.1, omega arith)
 
 pub returns-in_default : goal.returns-in_default
 returns-in_default c = let a = c.args in
-    header_written a.words.now a.kind a.present _ (not_error a.kind c.in-Error.keys2 _) _ _ _ _ c.encode_fixed.ensures c.encode_lists.ensures
+    header_written a.words.now a.kind a.present _ (not_error a.kind c.in_default.not-Error _) _ _ _ _ c.encode_fixed.ensures c.encode_lists.ensures
 
 pub encode_error-requires : goal.encode_error-requires
 encode_error-requires c = let a = c.args in

@@ -13,7 +13,7 @@ use Rattle.writer.proofs.encode_segment.Goals as goal
 pub returns : goal.returns
 unfolding word_bytes
 returns c = let a = c.args in
-    let known = c.shared_slice_known-5-1.given (a.from + 2) in
+    let known = c.type_inv.words (a.from + 2) in
     let low : get_or a.words.now (a.from + 2) 0 < 4294967296 = omega arith in
     rw (segment_in_bytes a.words.now a.from low)
     (then _ _ _ _ _ _ _ (then _ _ _ _ _ _ _ (then _ _ _ _ _ _ _ (rw (add-zero a.from) at c.put_word.ensures) c.put_word-2.ensures refl) c.put_word-3.ensures refl) c.put_word-4.ensures refl)

@@ -23,7 +23,7 @@ unfolding stored joined runs total
 loop-j-init c = (search rules, refl, refl, omega arith, refl)
 
 pub overflow_cast-d : goal.overflow_cast-d
-overflow_cast-d c = let small = c.shared_slice_known-in-loop-j-1.given (224 + c.loop-j.j) in search rules
+overflow_cast-d c = let small = c.type_inv.words (224 + c.loop-j.j) in search rules
 
 pub encode_chunk-requires : goal.encode_chunk-requires
 encode_chunk-requires c = let few : let w = c.args.words.now in total (take c.loop-j.j (counts_in w)) + get_or w (224 + c.loop-j.j) 0 ≤ total (take c.args.n (counts_in w)) = let a = c.args in let w = a.words.now in let long = counts_long w c.requires.0 in rw (count_here w c.loop-j.j (omega arith)) at (total_within (counts_in w) c.loop-j.j a.n c.loop-j-test.true (omega arith)) in

@@ -13,7 +13,7 @@ overflow_add-result c = let small = reply_within c.args.present c.args.replies (
     search rules
 
 pub returns-in_default : goal.returns-in_default
-returns-in_default c = λ parts e. rw (not_error c.args.kind c.in-Error.keys2 parts) (omega arith)
+returns-in_default c = λ parts e. rw (not_error c.args.kind c.in_default.not-Error parts) (omega arith)
 
 pub returns : goal.returns
 returns c = λ parts e. rw c.in-Error.is c.error_length.ensures

@@ -12,6 +12,7 @@ pub returns : goal.returns
 returns c = let a = c.args in
     let g = c.well_formed.0.1.1 in
     let held : header_in c.words_of-words.result ≡ some a.h = ap header_in c.words_of-words.ensures ∙ header_back a.h (full_of a.h _ _ _ g.0 g.1.0 g.1.1.0) in
-    let done = rw held at (c.write_words-number.ensures.answer, (c.write_words-number.ensures.size, c.write_words-number.ensures.buffer)) in
-    let size = done.1.0 ∙ none_written a.h (length a.out.now) in
-    record { answer = (λ i. record { number = done.0 i; length = size i }); buffer = done.1.1 }
+    let number = rw held at c.write_words-number.ensures.answer in
+    let size = rw held at c.write_words-number.ensures.size in
+    let long = size ∙ none_written a.h (length a.out.now) in
+    record { answer = (λ i. record { number = number i; length = long i }); buffer = rw held at c.write_words-number.ensures.buffer }

@@ -21,13 +21,13 @@ use Rattle.writer.proofs.Entries.{entries_fault, entries_fine}
 use Rattle.writer.proofs.write_number.Goals as goal
 
 pub overflow_cast-reads : goal.overflow_cast-reads
-overflow_cast-reads c = let small = c.shared_slice_known-2-1.given 228 in search rules
+overflow_cast-reads c = let small = c.type_inv.words 228 in search rules
 
 pub overflow_cast-chunks : goal.overflow_cast-chunks
-overflow_cast-chunks c = let small = c.shared_slice_known-3-1.given 229 in search rules
+overflow_cast-chunks c = let small = c.type_inv.words 229 in search rules
 
 pub overflow_cast-replies : goal.overflow_cast-replies
-overflow_cast-replies c = let small = c.shared_slice_known-4-1.given 231 in search rules
+overflow_cast-replies c = let small = c.type_inv.words 231 in search rules
 
 pub returns-then-not-bare_if_error : goal.returns-then-not-bare_if_error
 unfolding write_number
@@ -45,6 +45,7 @@ check_entries-fault-requires c = let lent : List ℕ = c.args.words.now in
     let k = known in (k.few.reads, omega arith)
 
 pub returns-then-fault-ne0 : goal.returns-then-fault-ne0
+unfolding write_number content_of
 returns-then-fault-ne0 c = let lent : List ℕ = c.args.words.now in
     let held : Header = header_as lent c.args.kind c.args.present in
     let within : limits_kept lent c.args.present ≡ true = sym (c.within_limits.ensures (counts_in lent) c.total_count-segments.ensures) ∙ c.if-not-within_limits.false in
@@ -58,6 +59,7 @@ header_length-length-requires c = let lent : List ℕ = c.args.words.now in
     let k = known in (k.few.reads, k.few.chunks, rw c.total_count-segments.ensures k.few.segments, k.few.replies)
 
 pub returns-then-room-length : goal.returns-then-room-length
+unfolding write_number content_of
 returns-then-room-length c = let lent : List ℕ = c.args.words.now in
     let held : Header = header_as lent c.args.kind c.args.present in
     let within : limits_kept lent c.args.present ≡ true = sym (c.within_limits.ensures (counts_in lent) c.total_count-segments.ensures) ∙ c.if-not-within_limits.false in
@@ -67,6 +69,7 @@ returns-then-room-length c = let lent : List ℕ = c.args.words.now in
     sym (then_length ∙ simp (lt-leb c.header_length-length.result c.args.room c.if-room-length.true))
 
 pub returns : goal.returns
+unfolding write_number content_of
 returns c = let lent : List ℕ = c.args.words.now in
     let held : Header = header_as lent c.args.kind c.args.present in
     let within : limits_kept lent c.args.present ≡ true = sym (c.within_limits.ensures (counts_in lent) c.total_count-segments.ensures) ∙ c.if-not-within_limits.false in
