@@ -118,7 +118,7 @@ overflow_add-goes c = let all : length (read_places c.args.base (list c.args.wor
     let most : (c.loop-j.left + c.smaller-m.result ≤ c.read_segment_of-x.result.target.length) × (c.loop-j.j + c.smaller-m.result ≤ length c.args.piece.now) = let m = share in let l = rw c.wide-length.ensures.0 at c.if-length-left.false in let t = c.loop-j-test.true in (omega arith, omega arith) in
     let part : PartAt c.args.base (list c.args.words.now c.args.n) (take c.loop-j.i (list c.args.words.now c.args.n)) c.loop-j.i c.read_segment_of-x.result c.loop-j.left c.smaller-m.result = part_at c.args.base _ c.loop-j.i c.read_segment_of-x.result c.requires.1 c.requires.2 at c.loop-j.left c.smaller-m.result some most.0 in
     let cut : (take (c.loop-j.j + c.smaller-m.result - c.loop-j.j) (drop c.loop-j.j c.args.piece.now) ≡ take c.smaller-m.result (drop c.loop-j.j c.args.piece.now)) × (length (take c.smaller-m.result (drop c.loop-j.j c.args.piece.now)) ≡ c.smaller-m.result) = part_length c.loop-j.j c.smaller-m.result c.args.piece.now most.1 in
-    let made : let ps = part_places c.args.base (other_chunks (list c.args.words.now c.args.n)) c.read_segment_of-x.result.position (position_length c.read_segment_of-x.result.position (take c.loop-j.i (list c.args.words.now c.args.n)) + c.loop-j.left) c.smaller-m.result in (c.place_segment-goes.result ≡ goes (of_segment 0 ps)) × (c.place_segment-goes.new.out ≡ scatter ps (take c.smaller-m.result (drop c.loop-j.j c.args.piece.now)) c.loop-j.out) = rw (cut.0, cut.1, before) at (c.place_segment-goes.ensures.answer, c.place_segment-goes.ensures.buffer) in
+    let made : let ps = part_places c.args.base (other_chunks (list c.args.words.now c.args.n)) c.read_segment_of-x.result.position (position_length c.read_segment_of-x.result.position (take c.loop-j.i (list c.args.words.now c.args.n)) + c.loop-j.left) c.smaller-m.result in (c.place_segment-goes.result ≡ goes (of_segment 0 ps)) × (c.place_segment-goes.new.out ≡ scatter ps (take c.smaller-m.result (drop c.loop-j.j c.args.piece.now)) c.loop-j.out) = (rw (cut.0, cut.1, before) at c.place_segment-goes.ensures.answer, rw (cut.0, cut.1, before) at c.place_segment-goes.ensures.buffer) in
     let counted : c.loop-j.goes + c.place_segment-goes.result + goes (take (length c.args.piece.now - (c.loop-j.j + c.smaller-m.result)) (drop (c.args.count + (c.loop-j.j + c.smaller-m.result)) (bytes c.args.words.now c.args.n c.args.base))) ≡ goes (take (length c.args.piece.now) (drop c.args.count (bytes c.args.words.now c.args.n c.args.base))) = part_counted c.args.base _ _ c.loop-j.i c.read_segment_of-x.result c.loop-j.left c.smaller-m.result part c.args.count c.loop-j.j c.loop-j.invariant.2 c.args.piece.now c.loop-j-test.true some share c.loop-j.goes _ _ c.loop-j.invariant.6 made.0 in
     let sum = counted in
     let few = most_goes c.args.base (list c.args.words.now c.args.n) (rw (length-take-le c.args.n (reads_in c.args.words.now) (rw length_reads c.requires.0)) c.requires.0) c.requires.1 c.requires.2 c.args.count (length c.args.piece.now) in
@@ -155,7 +155,7 @@ loop-j-preserved c = let all : length (read_places c.args.base (list c.args.word
     let most : (c.loop-j.left + c.smaller-m.result ≤ c.read_segment_of-x.result.target.length) × (c.loop-j.j + c.smaller-m.result ≤ length c.args.piece.now) = let m = share in let l = rw c.wide-length.ensures.0 at c.if-length-left.false in let t = c.loop-j-test.true in (omega arith, omega arith) in
     let part : PartAt c.args.base (list c.args.words.now c.args.n) (take c.loop-j.i (list c.args.words.now c.args.n)) c.loop-j.i c.read_segment_of-x.result c.loop-j.left c.smaller-m.result = part_at c.args.base _ c.loop-j.i c.read_segment_of-x.result c.requires.1 c.requires.2 at c.loop-j.left c.smaller-m.result some most.0 in
     let cut : (take (c.loop-j.j + c.smaller-m.result - c.loop-j.j) (drop c.loop-j.j c.args.piece.now) ≡ take c.smaller-m.result (drop c.loop-j.j c.args.piece.now)) × (length (take c.smaller-m.result (drop c.loop-j.j c.args.piece.now)) ≡ c.smaller-m.result) = part_length c.loop-j.j c.smaller-m.result c.args.piece.now most.1 in
-    let made : let ps = part_places c.args.base (other_chunks (list c.args.words.now c.args.n)) c.read_segment_of-x.result.position (position_length c.read_segment_of-x.result.position (take c.loop-j.i (list c.args.words.now c.args.n)) + c.loop-j.left) c.smaller-m.result in (c.place_segment-goes.result ≡ goes (of_segment 0 ps)) × (c.place_segment-goes.new.out ≡ scatter ps (take c.smaller-m.result (drop c.loop-j.j c.args.piece.now)) c.loop-j.out) = rw (cut.0, cut.1, before) at (c.place_segment-goes.ensures.answer, c.place_segment-goes.ensures.buffer) in
+    let made : let ps = part_places c.args.base (other_chunks (list c.args.words.now c.args.n)) c.read_segment_of-x.result.position (position_length c.read_segment_of-x.result.position (take c.loop-j.i (list c.args.words.now c.args.n)) + c.loop-j.left) c.smaller-m.result in (c.place_segment-goes.result ≡ goes (of_segment 0 ps)) × (c.place_segment-goes.new.out ≡ scatter ps (take c.smaller-m.result (drop c.loop-j.j c.args.piece.now)) c.loop-j.out) = (rw (cut.0, cut.1, before) at c.place_segment-goes.ensures.answer, rw (cut.0, cut.1, before) at c.place_segment-goes.ensures.buffer) in
     let put : c.place_segment-goes.new.out ≡ scatter (drop c.args.count (read_places c.args.base (list c.args.words.now c.args.n))) (take (c.loop-j.j + c.smaller-m.result) c.args.piece.now) c.args.out.now = part_placed c.args.base _ _ c.loop-j.i c.read_segment_of-x.result c.loop-j.left c.smaller-m.result part c.args.count c.loop-j.j c.loop-j.invariant.2 c.args.piece.now c.loop-j-test.true some share _ c.loop-j.out _ c.loop-j.invariant.5 made.1 in
     let counted : c.loop-j.goes + c.place_segment-goes.result + goes (take (length c.args.piece.now - (c.loop-j.j + c.smaller-m.result)) (drop (c.args.count + (c.loop-j.j + c.smaller-m.result)) (bytes c.args.words.now c.args.n c.args.base))) ≡ goes (take (length c.args.piece.now) (drop c.args.count (bytes c.args.words.now c.args.n c.args.base))) = part_counted c.args.base _ _ c.loop-j.i c.read_segment_of-x.result c.loop-j.left c.smaller-m.result part c.args.count c.loop-j.j c.loop-j.invariant.2 c.args.piece.now c.loop-j-test.true some share c.loop-j.goes _ _ c.loop-j.invariant.6 made.0 in
     let sum = c.loop-j.invariant.2 in

@@ -121,11 +121,11 @@ overflow_add-here-2 c = omega arith
 
 pub overflow_add-here-3 : goal.overflow_add-here-3
 overflow_add-here-3 c = let behind : Behind (non_empty (drop c.loop-i.i (list c.args.words.now c.args.n))) c.loop-i.i c.loop-i.earlier c.loop-i.w = none_to_come _ c.loop-i.i _ _ c.loop-i.w (length_reads _) c.requires.0 c.loop-i.invariant.1 (omega arith) c.loop-i.invariant.0 in
-    let h = behind (c) in omega arith
+    let h = behind in omega arith
 
 pub rounded-requires : goal.rounded-requires
 rounded-requires c = let behind : Behind (non_empty (drop c.loop-i.i (list c.args.words.now c.args.n))) c.loop-i.i c.loop-i.earlier c.loop-i.w = none_to_come _ c.loop-i.i _ _ c.loop-i.w (length_reads _) c.requires.0 c.loop-i.invariant.1 (omega arith) c.loop-i.invariant.0 in
-    let h = behind (c) in omega arith
+    let h = behind in omega arith
 
 pub overflow_add-here-4 : goal.overflow_add-here-4
 overflow_add-here-4 c = let behind : Behind (non_empty (drop c.loop-i.i (list c.args.words.now c.args.n))) c.loop-i.i c.loop-i.earlier c.loop-i.w = none_to_come _ c.loop-i.i _ _ c.loop-i.w (length_reads _) c.requires.0 c.loop-i.invariant.1 (omega arith) c.loop-i.invariant.0 in
