@@ -1,6 +1,6 @@
 -- What a send and a reply are, by what they meet.
 -- Assumes nothing.
-use Rattle.std.proofs.Common.{◌≡◌, ℕ, suc, ◌+◌, ◌-◌, ◌<◌, ◌≤◌, Bool, true, false, cond, not, ◌||◌, T as Holds, eqb, ltb, leb, List, [], ◌∷◌, ◌++◌, length, take, drop, sym, refl, ◌∙◌, subst, true≢false, suc-add, arith, length-append, length-take-le, ltb-false, le-ltb, lt-ltb, eq-eqb, ne_eqb, le-leb}
+use Rattle.std.proofs.Common.{◌≡◌, ℕ, suc, ◌+◌, ◌-◌, ◌<◌, ◌≤◌, Bool, true, false, cond, not, ◌||◌, T as Holds, eqb, ltb, leb, List, [], ◌∷◌, ◌++◌, length, take, drop, sym, refl, subst, true≢false, suc-add, arith, length-append, length-take-le, ltb-false, le-ltb, lt-ltb, eq-eqb, ne_eqb, le-leb}
 use mathlib.Core.Bool.{false≢true, or-true, or-false}
 use borrow.Author.Tests.{eqb-false, lt-leb}
 use Rattle.answers.proofs.Checks.{neither, kept}

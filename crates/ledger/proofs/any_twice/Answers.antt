@@ -1,6 +1,5 @@
 -- `ledger::any_twice` meets its contract.
-use Rattle.std.proofs.Common.{◌≡◌, ◌+◌, ◌-◌, ◌≤◌, length, drop, sym, refl, ◌∙◌, arith, rules}
-use Rattle.ledger.specs.Ledger.{any_twice}
+use Rattle.std.proofs.Common.{◌+◌, sym, refl, ◌∙◌, arith, rules}
 use Rattle.ledger.proofs.Xids.{rising_once}
 use Rattle.ledger.proofs.Scans.{twice_here, twice_next, twice_none, rest_is}
 use Rattle.ledger.proofs.any_twice.Goals as goal

@@ -1,8 +1,6 @@
 -- `ledger::any_twice` meets its contract.
-use Rattle.std.proofs.Common.{◌≡◌, ◌+◌, ◌-◌, ◌≤◌, length, drop, sym, refl, ◌∙◌, arith, rules}
+use Rattle.std.proofs.Common.{◌≡◌, ◌-◌, ◌≤◌, length, drop}
 use Rattle.ledger.specs.Ledger.{any_twice}
-use Rattle.ledger.proofs.Xids.{rising_once}
-use Rattle.ledger.proofs.Scans.{twice_here, twice_next, twice_none, rest_is}
 use Rattle.ledger.proofs.any_twice.Given as goal
 
 abbrev pub invariant-loop-i : goal.invariant-loop-i

@@ -1,6 +1,6 @@
 -- `ledger::clear` meets its contract.
-use Rattle.std.proofs.Common.{◌≡◌, ◌-◌, ◌≤◌, length, ◌∙◌, arith, length-set, rules}
-use Rattle.ledger.proofs.Scans.{cleared, cleared_none, cleared_next, cleared_all}
+use Rattle.std.proofs.Common.{◌∙◌, arith, length-set}
+use Rattle.ledger.proofs.Scans.{cleared_none, cleared_next, cleared_all}
 use Rattle.ledger.proofs.clear.Goals as goal
 
 pub loop-i-init : goal.loop-i-init

@@ -1,6 +1,6 @@
 -- `ledger::clear` meets its contract.
-use Rattle.std.proofs.Common.{◌≡◌, ◌-◌, ◌≤◌, length, ◌∙◌, arith, length-set, rules}
-use Rattle.ledger.proofs.Scans.{cleared, cleared_none, cleared_next, cleared_all}
+use Rattle.std.proofs.Common.{◌≡◌, ◌-◌, ◌≤◌, length}
+use Rattle.ledger.proofs.Scans.{cleared}
 use Rattle.ledger.proofs.clear.Given as goal
 
 abbrev pub invariant-loop-i : goal.invariant-loop-i

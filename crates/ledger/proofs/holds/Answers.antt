@@ -1,6 +1,5 @@
 -- `ledger::holds` meets its contract.
-use Rattle.std.proofs.Common.{◌≡◌, ◌-◌, ◌||◌, drop, refl, arith, rules}
-use Rattle.ledger.specs.Ledger.{is_in}
+use Rattle.std.proofs.Common.{refl, arith}
 use Rattle.ledger.proofs.Scans.{in_next, in_end}
 use Rattle.ledger.proofs.holds.Goals as goal
 

@@ -1,7 +1,6 @@
 -- `ledger::holds` meets its contract.
-use Rattle.std.proofs.Common.{◌≡◌, ◌-◌, ◌||◌, drop, refl, arith, rules}
+use Rattle.std.proofs.Common.{◌≡◌, ◌-◌, ◌||◌, drop}
 use Rattle.ledger.specs.Ledger.{is_in}
-use Rattle.ledger.proofs.Scans.{in_next, in_end}
 use Rattle.ledger.proofs.holds.Given as goal
 
 abbrev pub invariant-loop-i : goal.invariant-loop-i

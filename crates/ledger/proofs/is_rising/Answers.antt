@@ -1,6 +1,5 @@
 -- `ledger::is_rising` meets its contract.
-use Rattle.std.proofs.Common.{◌≡◌, ◌+◌, ◌-◌, ◌≤◌, ◌&&◌, length, drop, refl, arith, rules}
-use Rattle.ledger.specs.Internal.Search.{rising}
+use Rattle.std.proofs.Common.{◌≡◌, ◌+◌, ◌-◌, refl, arith}
 use Rattle.ledger.proofs.Scans.{rising_next, rising_end}
 use Rattle.ledger.proofs.is_rising.Goals as goal
 

@@ -1,7 +1,6 @@
 -- `ledger::is_rising` meets its contract.
-use Rattle.std.proofs.Common.{◌≡◌, ◌+◌, ◌-◌, ◌≤◌, ◌&&◌, length, drop, refl, arith, rules}
+use Rattle.std.proofs.Common.{◌≡◌, ◌-◌, ◌≤◌, ◌&&◌, length, drop}
 use Rattle.ledger.specs.Internal.Search.{rising}
-use Rattle.ledger.proofs.Scans.{rising_next, rising_end}
 use Rattle.ledger.proofs.is_rising.Given as goal
 
 abbrev pub invariant-loop-i : goal.invariant-loop-i

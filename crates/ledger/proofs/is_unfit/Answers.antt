@@ -1,5 +1,5 @@
 -- `ledger::is_unfit` meets its contract.
-use Rattle.std.proofs.Common.{sym, ◌∙◌, arith, length-take-le, rules}
+use Rattle.std.proofs.Common.{sym, ◌∙◌, arith, length-take-le}
 use Rattle.ledger.proofs.Steps.{too_many, no_grant, unfit_if_twice}
 use Rattle.ledger.proofs.is_unfit.Goals as goal
 

@@ -1,5 +1,5 @@
 -- `ledger::join` meets its contract.
-use Rattle.std.proofs.Common.{sym, ap, ◌∙◌, arith, length-set, rules}
+use Rattle.std.proofs.Common.{sym, ap, ◌∙◌, arith, length-set}
 use Rattle.ledger.specs.Ledger.{padded}
 use Rattle.ledger.proofs.Scans.{one_more}
 use Rattle.ledger.proofs.join.Goals as goal

@@ -1,6 +1,6 @@
 -- `ledger::leave` meets its contract.
-use Rattle.std.proofs.Common.{◌≡◌, ◌-◌, ◌≤◌, length, sym, refl, ◌∙◌, arith, length-set, rules}
-use Rattle.ledger.proofs.Scans.{moved, moved_none, moved_next, moved_all}
+use Rattle.std.proofs.Common.{◌≡◌, ◌-◌, sym, refl, ◌∙◌, arith, length-set}
+use Rattle.ledger.proofs.Scans.{moved_none, moved_next, moved_all}
 use Rattle.ledger.proofs.leave.Goals as goal
 
 pub loop-i-init : goal.loop-i-init

@@ -1,6 +1,6 @@
 -- `ledger::leave` meets its contract.
-use Rattle.std.proofs.Common.{◌≡◌, ◌-◌, ◌≤◌, length, sym, refl, ◌∙◌, arith, length-set, rules}
-use Rattle.ledger.proofs.Scans.{moved, moved_none, moved_next, moved_all}
+use Rattle.std.proofs.Common.{◌≡◌, ◌-◌, ◌≤◌, length}
+use Rattle.ledger.proofs.Scans.{moved}
 use Rattle.ledger.proofs.leave.Given as goal
 
 abbrev pub invariant-loop-i : goal.invariant-loop-i

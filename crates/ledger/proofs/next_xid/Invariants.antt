@@ -1,6 +1,6 @@
 -- `ledger::next_xid` meets its contract.
-use Rattle.std.proofs.Common.{◌+◌, ◌-◌, length, sym, ◌∙◌, arith, rules}
-use Rattle.ledger.proofs.Searching.{Seeking, seeking_starts, seeking_next, seeking_ends}
+use Rattle.std.proofs.Common.{◌-◌, length}
+use Rattle.ledger.proofs.Searching.{Seeking}
 use Rattle.ledger.proofs.next_xid.Given as goal
 
 abbrev pub invariant-loop-xid : goal.invariant-loop-xid

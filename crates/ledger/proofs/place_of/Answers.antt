@@ -1,6 +1,5 @@
 -- `ledger::place_of` meets its contract.
-use Rattle.std.proofs.Common.{◌≡◌, ◌+◌, ◌-◌, ◌≤◌, length, drop, refl, arith, rules}
-use Rattle.ledger.specs.Internal.Search.{place_of}
+use Rattle.std.proofs.Common.{refl, arith, rules}
 use Rattle.ledger.proofs.Scans.{place_here, place_next, place_none}
 use Rattle.ledger.proofs.place_of.Goals as goal
 

@@ -1,7 +1,6 @@
 -- `ledger::place_of` meets its contract.
-use Rattle.std.proofs.Common.{◌≡◌, ◌+◌, ◌-◌, ◌≤◌, length, drop, refl, arith, rules}
+use Rattle.std.proofs.Common.{◌≡◌, ◌+◌, ◌-◌, ◌≤◌, length, drop}
 use Rattle.ledger.specs.Internal.Search.{place_of}
-use Rattle.ledger.proofs.Scans.{place_here, place_next, place_none}
 use Rattle.ledger.proofs.place_of.Given as goal
 
 abbrev pub invariant-loop-i : goal.invariant-loop-i
