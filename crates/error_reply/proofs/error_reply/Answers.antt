@@ -11,6 +11,7 @@ use Rattle.error_reply.specs.Reply.{error_reply_answer, error_reply_buffer, erro
 use Rattle.wire.specs.Wire.{words, joined}
 use borrow.Author.Rules.{rules}
 use Rattle.error_reply.proofs.error_reply.Goals as goal
+use Rattle.error_reply.proofs.error_reply.Goals.{then-n-eq-VERSION_ERROR_BYTES, else-n-eq-VERSION_ERROR_BYTES}
 
 -- The clauses, from all of them at once.
 clauses : {A B : Type 0} → A × B → record { answer : A; buffer : B }
@@ -39,26 +40,19 @@ returns-then-out-n c = clauses (simp (le-leb 1 _ (positive _ c.if-limit-eq0.fals
 
 -- The buffer behind a version reply's words is as long as before.
 pub put_word-requires : goal.put_word-requires
-put_word-requires c = let room = chunk_room _ _ _ c.length_of-n.ensures c.if-n-eq0.false c.if-out-n.false in
-    let kept = ⊎_elim (λ t. ap length t.5 ∙ both_kept _ _ _ _ _ _ t.2.ensures) (λ t. ap length t.1) c.if-n-eq-VERSION_ERROR_BYTES.branch in
-    omega (arith, room, kept)
+put_word-requires c = let room = chunk_room _ _ _ c.length_of-n.ensures c.if-n-eq0.false c.if-out-n.false in omega arith
 
 pub encode_chunk-requires : goal.encode_chunk-requires
-encode_chunk-requires c = let kept = ⊎_elim (λ t. ap length t.5 ∙ both_kept _ _ _ _ _ _ t.2.ensures) (λ t. ap length t.1) c.if-n-eq-VERSION_ERROR_BYTES.branch in
-    (c.if-frame-lt-FIXED_BYTES.false, rw (one_kept _ _ _ _ c.put_word.ensures ∙ kept) (chunk_room _ _ _ c.length_of-n.ensures c.if-n-eq0.false c.if-out-n.false))
-
-pub shape_of-out-then-n-eq-CHUNK_ERROR_BYTES : goal.shape_of-out-then-n-eq-CHUNK_ERROR_BYTES
-shape_of-out-then-n-eq-CHUNK_ERROR_BYTES c = both_kept _ _ _ _ _ _ c.encode_chunk.ensures ∙ one_kept _ _ _ _ c.put_word.ensures ∙ ⊎_elim (λ t. ap length t.5 ∙ both_kept _ _ _ _ _ _ t.2.ensures) (λ t. ap length t.1) c.if-n-eq-VERSION_ERROR_BYTES.branch
+encode_chunk-requires c = let room = chunk_room _ _ _ c.length_of-n.ensures c.if-n-eq0.false c.if-out-n.false in (c.if-frame-lt-FIXED_BYTES.false, omega arith)
 
 pub returns-then-n-eq-CHUNK_ERROR_BYTES : goal.returns-then-n-eq-CHUNK_ERROR_BYTES
-returns-then-n-eq-CHUNK_ERROR_BYTES c = clauses (⊎_elim (λ t. absurd (omega (arith, t.0.taken, c.if-n-eq-CHUNK_ERROR_BYTES.true)))
-    (λ t. reply_stored _ _ _ _ _ _ _ _ _ (positive _ c.if-limit-eq0.false) c.if-number-gt-LAST_NUMBER.false c.kind_for.ensures c.length_of-n.ensures c.if-out-n.false c.word_at-asked.ensures c.granted_credit.ensures (chunk_stored _ _ _ _ _ _ _ _ c.length_of-n.ensures c.if-n-eq-CHUNK_ERROR_BYTES.true (rw (← t.1) c.put_word.ensures) c.encode_chunk.ensures))
-    c.if-n-eq-VERSION_ERROR_BYTES.branch)
-
-pub shape_of-out-else-n-eq-CHUNK_ERROR_BYTES : goal.shape_of-out-else-n-eq-CHUNK_ERROR_BYTES
-shape_of-out-else-n-eq-CHUNK_ERROR_BYTES c = one_kept _ _ _ _ c.put_word.ensures ∙ ⊎_elim (λ t. ap length t.5 ∙ both_kept _ _ _ _ _ _ t.2.ensures) (λ t. ap length t.1) c.if-n-eq-VERSION_ERROR_BYTES.branch
+returns-then-n-eq-CHUNK_ERROR_BYTES c = clauses (elim c.if-n-eq-VERSION_ERROR_BYTES.branch [
+      then-n-eq-VERSION_ERROR_BYTES w ↦ absurd (omega (arith, w.if-n-eq-VERSION_ERROR_BYTES.true, c.if-n-eq-CHUNK_ERROR_BYTES.true))
+    | else-n-eq-VERSION_ERROR_BYTES w ↦ reply_stored _ _ _ _ _ _ _ _ _ (positive _ c.if-limit-eq0.false) c.if-number-gt-LAST_NUMBER.false c.kind_for.ensures c.length_of-n.ensures c.if-out-n.false c.word_at-asked.ensures c.granted_credit.ensures (chunk_stored _ _ _ _ _ _ _ _ c.length_of-n.ensures c.if-n-eq-CHUNK_ERROR_BYTES.true (rw (← w.out-is) c.put_word.ensures) c.encode_chunk.ensures)
+    ])
 
 pub returns-else-n-eq-CHUNK_ERROR_BYTES : goal.returns-else-n-eq-CHUNK_ERROR_BYTES
-returns-else-n-eq-CHUNK_ERROR_BYTES c = clauses (⊎_elim (λ t. reply_stored _ _ _ _ _ _ _ _ _ (positive _ c.if-limit-eq0.false) c.if-number-gt-LAST_NUMBER.false c.kind_for.ensures c.length_of-n.ensures c.if-out-n.false c.word_at-asked.ensures c.granted_credit.ensures (version_stored _ _ _ _ _ _ _ _ c.length_of-n.ensures t.0.taken (t.5 ∙ t.2.ensures) c.put_word.ensures))
-    (λ t. absurd (no_length _ _ c.length_of-n.ensures c.if-n-eq0.false t.0.left c.if-n-eq-CHUNK_ERROR_BYTES.false))
-    c.if-n-eq-VERSION_ERROR_BYTES.branch)
+returns-else-n-eq-CHUNK_ERROR_BYTES c = clauses (elim c.if-n-eq-VERSION_ERROR_BYTES.branch [
+      then-n-eq-VERSION_ERROR_BYTES w ↦ reply_stored _ _ _ _ _ _ _ _ _ (positive _ c.if-limit-eq0.false) c.if-number-gt-LAST_NUMBER.false c.kind_for.ensures c.length_of-n.ensures c.if-out-n.false c.word_at-asked.ensures c.granted_credit.ensures (version_stored _ _ _ _ _ _ _ _ c.length_of-n.ensures w.if-n-eq-VERSION_ERROR_BYTES.true (w.out-is ∙ w.encode_version.ensures) c.put_word.ensures)
+    | else-n-eq-VERSION_ERROR_BYTES w ↦ absurd (no_length _ _ c.length_of-n.ensures c.if-n-eq0.false w.if-n-eq-VERSION_ERROR_BYTES.false c.if-n-eq-CHUNK_ERROR_BYTES.false)
+    ])
