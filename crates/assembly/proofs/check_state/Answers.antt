@@ -31,16 +31,16 @@ pub returns-then-base_length-base : goal.returns-then-base_length-base
 returns-then-base_length-base c = let state : State = with_reads (reads_in c.args.words.now) c.args.p in
     let fine : FineReads c.args.p.base (reads_of state) c.in-Fine.found = fine_told _ _ _ (sym c.check_reads-reads.ensures ∙ c.in-Fine.is) in
     let f = fine in
-    unfit_checked _ _ _ c.unfit-then-base_length-base.ensures (other_base state c.args.room c.if-p.false f.rise f.aligned c.if-p-room.false _ f.summed c.check_room-measured.result (c.check_room-measured.ensures _ f.stood) _ c.decreases.given.1 c.base_length.result c.base_length.ensures c.if-base_length-base.true)
+    unfit_checked _ _ _ c.unfit-then-base_length-base.ensures (other_base state c.args.room c.if-p.false f.rise f.aligned c.if-p-room.false _ f.summed c.check_room-measured.result (c.check_room-measured.ensures _ f.stood) _ c.in-Holds.is c.base_length.result c.base_length.ensures c.if-base_length-base.true)
 
 pub returns-then-sums-p : goal.returns-then-sums-p
 returns-then-sums-p c = let state : State = with_reads (reads_in c.args.words.now) c.args.p in
     let fine : FineReads c.args.p.base (reads_of state) c.in-Fine.found = fine_told _ _ _ (sym c.check_reads-reads.ensures ∙ c.in-Fine.is) in
     let f = fine in
-    unfit_checked _ _ _ c.unfit-then-sums-p.ensures (over_taken state c.args.room c.if-p.false f.rise f.aligned c.if-p-room.false _ f.summed c.check_room-measured.result (c.check_room-measured.ensures _ f.stood) _ c.decreases.given.1 c.base_length.result c.base_length.ensures c.if-base_length-base.false c.if-sums-p.true)
+    unfit_checked _ _ _ c.unfit-then-sums-p.ensures (over_taken state c.args.room c.if-p.false f.rise f.aligned c.if-p-room.false _ f.summed c.check_room-measured.result (c.check_room-measured.ensures _ f.stood) _ c.in-Holds.is c.base_length.result c.base_length.ensures c.if-base_length-base.false c.if-sums-p.true)
 
 pub returns : goal.returns
 returns c = let state : State = with_reads (reads_in c.args.words.now) c.args.p in
     let fine : FineReads c.args.p.base (reads_of state) c.in-Fine.found = fine_told _ _ _ (sym c.check_reads-reads.ensures ∙ c.in-Fine.is) in
     let f = fine in
-    fit_checked state c.args.room c.if-p.false f.rise f.aligned c.if-p-room.false _ f.summed c.check_room-measured.result (c.check_room-measured.ensures _ f.stood) _ c.decreases.given.1 c.base_length.result c.base_length.ensures c.if-base_length-base.false _ c.if-sums-p.false refl
+    fit_checked state c.args.room c.if-p.false f.rise f.aligned c.if-p-room.false _ f.summed c.check_room-measured.result (c.check_room-measured.ensures _ f.stood) _ c.in-Holds.is c.base_length.result c.base_length.ensures c.if-base_length-base.false _ c.if-sums-p.false refl

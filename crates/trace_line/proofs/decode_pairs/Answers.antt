@@ -14,10 +14,6 @@ use Rattle.trace_line.proofs.digit.Reads as digit
 use Rattle.wire.proofs.smaller.Reads as smaller
 use Rattle.trace_line.proofs.decode_pairs.Goals as goal
 
--- Where the test is passed, all four are digits.
-four : (c : lts.Else1 (smaller.Asked, smaller.Learnt, digit.Asked, digit.Learnt) reads.Pre reads.Post invariant-loop decreases-loop) → Four c.before.before.before.before.before.before.before.digit.result c.before.before.before.before.before.digit2.result c.before.before.before.digit3.result c.before.digit4.result (get_or c.before.before.before.before.before.before.before.before.before.before.before.before.before.before.args.text.now (2 * c.before.before.before.before.before.before.before.before.before.before.loop.k) 0) (get_or c.before.before.before.before.before.before.before.before.before.before.before.before.before.before.args.text.now (2 * c.before.before.before.before.before.before.before.before.before.before.loop.k + 1) 0) (get_or c.before.before.before.before.before.before.before.before.before.before.before.before.before.before.args.text.now (2 * c.before.before.before.before.before.before.before.before.before.before.loop.k + 2) 0) (get_or c.before.before.before.before.before.before.before.before.before.before.before.before.before.before.args.text.now (2 * c.before.before.before.before.before.before.before.before.before.before.loop.k + 3) 0)
-four c = four_digits c.before.before.before.before.before.before.before.digit.ensures.0 c.before.before.before.before.before.digit2.ensures.0 c.before.before.before.digit3.ensures.0 c.before.digit4.ensures.0 (search rules)
-
 pub loop-k-init : goal.loop-k-init
 unfolding bytes_of all_digits
 loop-k-init c = (search rules, search rules, search rules, refl, refl, refl)
@@ -26,24 +22,29 @@ pub returns-then-a-b-ge-NO_DIGIT : goal.returns-then-a-b-ge-NO_DIGIT
 returns-then-a-b-ge-NO_DIGIT c = let l = c.loop-k in record { there = omega arith; room = omega arith; digits = l.invariant.3; bytes = l.invariant.4 }
 
 pub overflow_mul-frame : goal.overflow_mul-frame
-overflow_mul-frame c = let f = four c in let a = f.a_low in let b = f.b_low in let d = f.c_low in let e = f.d_low in omega arith
+overflow_mul-frame c = let four : Four c.digit-a.result c.digit-b.result c.digit-c.result c.digit-d.result (get_or c.args.text.now (2 * c.loop-k.k) 0) (get_or c.args.text.now (2 * c.loop-k.k + 1) 0) (get_or c.args.text.now (2 * c.loop-k.k + 2) 0) (get_or c.args.text.now (2 * c.loop-k.k + 3) 0) = four_digits c.digit-a.ensures.0 c.digit-b.ensures.0 c.digit-c.ensures.0 c.digit-d.ensures.0 (search rules) in
+    let f = four in let a = f.a_low in let b = f.b_low in let d = f.c_low in let e = f.d_low in omega arith
 
 pub overflow_add-frame : goal.overflow_add-frame
-overflow_add-frame c = let f = four c in let a = f.a_low in let b = f.b_low in let d = f.c_low in let e = f.d_low in omega arith
+overflow_add-frame c = let four : Four c.digit-a.result c.digit-b.result c.digit-c.result c.digit-d.result (get_or c.args.text.now (2 * c.loop-k.k) 0) (get_or c.args.text.now (2 * c.loop-k.k + 1) 0) (get_or c.args.text.now (2 * c.loop-k.k + 2) 0) (get_or c.args.text.now (2 * c.loop-k.k + 3) 0) = four_digits c.digit-a.ensures.0 c.digit-b.ensures.0 c.digit-c.ensures.0 c.digit-d.ensures.0 (search rules) in
+    let f = four in let a = f.a_low in let b = f.b_low in let d = f.c_low in let e = f.d_low in omega arith
 
 pub overflow_mul-frame-in-loop-k : goal.overflow_mul-frame-in-loop-k
-overflow_mul-frame-in-loop-k c = let f = four c in let a = f.a_low in let b = f.b_low in let d = f.c_low in let e = f.d_low in omega arith
+overflow_mul-frame-in-loop-k c = let four : Four c.digit-a.result c.digit-b.result c.digit-c.result c.digit-d.result (get_or c.args.text.now (2 * c.loop-k.k) 0) (get_or c.args.text.now (2 * c.loop-k.k + 1) 0) (get_or c.args.text.now (2 * c.loop-k.k + 2) 0) (get_or c.args.text.now (2 * c.loop-k.k + 3) 0) = four_digits c.digit-a.ensures.0 c.digit-b.ensures.0 c.digit-c.ensures.0 c.digit-d.ensures.0 (search rules) in
+    let f = four in let a = f.a_low in let b = f.b_low in let d = f.c_low in let e = f.d_low in omega arith
 
 pub overflow_add-frame-in-loop-k : goal.overflow_add-frame-in-loop-k
-overflow_add-frame-in-loop-k c = let f = four c in let a = f.a_low in let b = f.b_low in let d = f.c_low in let e = f.d_low in omega arith
+overflow_add-frame-in-loop-k c = let four : Four c.digit-a.result c.digit-b.result c.digit-c.result c.digit-d.result (get_or c.args.text.now (2 * c.loop-k.k) 0) (get_or c.args.text.now (2 * c.loop-k.k + 1) 0) (get_or c.args.text.now (2 * c.loop-k.k + 2) 0) (get_or c.args.text.now (2 * c.loop-k.k + 3) 0) = four_digits c.digit-a.ensures.0 c.digit-b.ensures.0 c.digit-c.ensures.0 c.digit-d.ensures.0 (search rules) in
+    let f = four in let a = f.a_low in let b = f.b_low in let d = f.c_low in let e = f.d_low in omega arith
 
 pub bounds-frame-k-in-loop-k : goal.bounds-frame-k-in-loop-k
 bounds-frame-k-in-loop-k c = simp length-set (search rules)
 
 pub loop-k-preserved : goal.loop-k-preserved
-loop-k-preserved c = let l = c.loop-k in
+loop-k-preserved c = let four : Four c.digit-a.result c.digit-b.result c.digit-c.result c.digit-d.result (get_or c.args.text.now (2 * c.loop-k.k) 0) (get_or c.args.text.now (2 * c.loop-k.k + 1) 0) (get_or c.args.text.now (2 * c.loop-k.k + 2) 0) (get_or c.args.text.now (2 * c.loop-k.k + 3) 0) = four_digits c.digit-a.ensures.0 c.digit-b.ensures.0 c.digit-c.ensures.0 c.digit-d.ensures.0 (search rules) in
+    let l = c.loop-k in
     let a = c.args in
-    let f = four c in
+    let f = four in
     (search rules, search rules, simp length-set (search rules), pairs_digits a.text.now a.frame.now l.k _ _ _ _ (omega arith) f.a_is f.b_is f.c_is f.d_is l.invariant.3 f.a_low f.b_low f.c_low f.d_low, pairs_more a.text.now a.frame.now l.k _ _ _ _ (omega arith) f.a_is f.b_is f.c_is f.d_is l.frame (omega arith) l.invariant.4, omega arith)
 
 pub returns : goal.returns

@@ -15,7 +15,7 @@ loop-c-init c = (search rules, search rules, λ b h. absurd (omega arith))
 
 -- src/lib.rt:62:5
 pub loop-c-preserved : goal.loop-c-preserved
-loop-c-preserved c = (search rules, simp length-set (search rules), values_next _ _ _ c.loop-c.invariant.2 (search rules) c.value_of_lem.ensures)
+loop-c-preserved c = (search rules, simp length-set (search rules), values_next _ _ _ c.loop-c.invariant.2 (search rules) c.value_of.ensures)
 
 -- src/lib.rt:57:1
 pub returns : goal.returns

@@ -18,6 +18,5 @@ returns-then-b-eq-NEWLINE c = takes_none _ _ _ _ (sym c.in-Digits.is)
 
 pub returns : goal.returns
 returns c = let a = c.args in
-    let e = c.take_byte.ensures in
     let is = c.in-Digits.is in
-    takes_next a.line _ _ a.text.now a.frame.now a.frame.now _ 0 (takes_none a.line _ a.text.now a.frame.now (sym is)) (search rules) (search rules) e.0 e.1
+    takes_next a.line _ _ a.text.now a.frame.now a.frame.now _ 0 (takes_none a.line _ a.text.now a.frame.now (sym is)) (search rules) (search rules) c.take_byte.ensures.line c.take_byte.ensures.frame

@@ -11,18 +11,15 @@ use Rattle.trace_line.proofs.take_pairs.Reads as take-pairs
 use Rattle.trace_line.proofs.take_bytes.Reads as take-bytes
 use Rattle.trace_line.proofs.take_part.Goals as goal
 
--- The search enters no more records than stand between the text and where it ends: its length is asked first.
-text_fits : (s : lts.Start (take_half.Asked, take_half.Learnt, take-pairs.Asked, take-pairs.Learnt, take-bytes.Asked, take-bytes.Learnt) reads.Pre reads.Post) → length s.args.text.now < 2 ^ 64
-text_fits s = search rules
-
 -- The clauses, from all of them at once.
-clauses : {A B C : Type 0} → A × B × C → record { used : A; line : B; frame : C }
-clauses p = record { used = p.0; line = p.1; frame = p.2 }
+clauses : {A B C : Type 0} → A × (B × C) → record { used : A; line : B; frame : C }
+clauses p = record { used = p.0; line = p.1.0; frame = p.1.1 }
 
 pub overflow_add-result : goal.overflow_add-result
-overflow_add-result c = let a = c.args in
+overflow_add-result c = let text_fits : length c.args.text.now < 2 ^ 64 = search rules in
+    let a = c.args in
     let z = three_most a.line a.text.now a.frame.now _ _ _ _ _ _ c.take_half-half.ensures c.take_pairs-pairs.ensures c.take_bytes-rest.ensures.part in
-    omega (arith, text_fits c)
+    omega (arith, text_fits)
 
 pub returns : goal.returns
 returns c = clauses (let a = c.args in
