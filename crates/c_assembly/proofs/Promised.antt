@@ -5,7 +5,7 @@ use mathlib.Core.List.{List}
 use Prim.Native.Nat.{ℕ}
 use lib.ListN.{length}
 use contract.Lifetimes.{Lfts}
-use denote.Ref.{Bor}
+use denote.Ref.{Bor, MutBor}
 use denote.Triple.Clauses.{AtExit}
 use borrow.Fn.Kinds.{ended_of}
 use Rattle.reader.specs.Frame.{read_frame}
@@ -22,27 +22,27 @@ use Rattle.c_assembly.proofs.eos_message.Reads as tells
 use Rattle.c_assembly.proofs.eos_message.Kinds as tell-kinds
 
 -- `eos_start`: the number, every word of the state, and every byte of the buffer.
-pub starting_asks_nothing : (κs : Lfts 3) (frame out state : Bor (List ℕ)) → starts.Pre κs (frame, (out, (state, tt)))
+pub starting_asks_nothing : (κs : Lfts 3) (frame : Bor (List ℕ)) (out state : MutBor (List ℕ)) → starts.Pre κs (frame, (out, (state, tt)))
 starting_asks_nothing κs frame out state = tt
 
-pub started : (κs : Lfts 3) (frame out state : Bor (List ℕ)) (answer : ℕ) (left : AtExit (ended_of 3 start-kinds.ps start-kinds.r) κs) → starts.Post κs (frame, (out, (state, tt))) answer left →
+pub started : (κs : Lfts 3) (frame : Bor (List ℕ)) (out state : MutBor (List ℕ)) (answer : ℕ) (left : AtExit (ended_of 3 start-kinds.ps start-kinds.r) κs) → starts.Post κs (frame, (out, (state, tt))) answer left →
     (answer ≡ start_number (read_frame frame.now) (length out.now))
     × ((left.1.1.0.now ≡ start_words (read_frame frame.now) (length out.now) state.now) × (left.1.0.now ≡ start_buffer (read_frame frame.now) out.now))
 started κs frame out state answer left promise = promise
 
 -- `eos_take_piece`: the number and the goes, every word of the state, and every byte of the buffer.
-pub taking_asks_nothing : (κs : Lfts 3) (state piece out : Bor (List ℕ)) → takes.Pre κs (state, (piece, (out, tt)))
+pub taking_asks_nothing : (κs : Lfts 3) (state : MutBor (List ℕ)) (piece : Bor (List ℕ)) (out : MutBor (List ℕ)) → takes.Pre κs (state, (piece, (out, tt)))
 taking_asks_nothing κs state piece out = tt
 
-pub taken : (κs : Lfts 3) (state piece out : Bor (List ℕ)) (answer : PieceAnswer) (left : AtExit (ended_of 3 take-kinds.ps take-kinds.r) κs) → takes.Post κs (state, (piece, (out, tt))) answer left →
+pub taken : (κs : Lfts 3) (state : MutBor (List ℕ)) (piece : Bor (List ℕ)) (out : MutBor (List ℕ)) (answer : PieceAnswer) (left : AtExit (ended_of 3 take-kinds.ps take-kinds.r) κs) → takes.Post κs (state, (piece, (out, tt))) answer left →
     (answer ≡ piece_answer (state_in state.now) (length out.now) (length piece.now))
     × ((left.0.now ≡ piece_words state.now (length out.now) (length piece.now)) × (left.1.1.0.now ≡ piece_buffer (state_in state.now) piece.now out.now))
 taken κs state piece out answer left promise = promise
 
 -- `eos_message`: the number, and the message's length.
-pub telling_asks_nothing : (κs : Lfts 3) (state out : Bor (List ℕ)) (size : Bor ℕ) → tells.Pre κs (state, (out, (size, tt)))
+pub telling_asks_nothing : (κs : Lfts 3) (state out : Bor (List ℕ)) (size : MutBor ℕ) → tells.Pre κs (state, (out, (size, tt)))
 telling_asks_nothing κs state out size = tt
 
-pub told : (κs : Lfts 3) (state out : Bor (List ℕ)) (size : Bor ℕ) (answer : ℕ) (left : AtExit (ended_of 3 tell-kinds.ps tell-kinds.r) κs) → tells.Post κs (state, (out, (size, tt))) answer left →
+pub told : (κs : Lfts 3) (state out : Bor (List ℕ)) (size : MutBor ℕ) (answer : ℕ) (left : AtExit (ended_of 3 tell-kinds.ps tell-kinds.r) κs) → tells.Post κs (state, (out, (size, tt))) answer left →
     (answer ≡ message_number (state_in state.now) (length out.now)) × (left.1.1.0.now ≡ message_size (state_in state.now) (length out.now) size.now)
 told κs state out size answer left promise = promise

@@ -5,7 +5,7 @@ use mathlib.Core.List.{List}
 use Prim.Native.Nat.{ℕ}
 use lib.ListN.{length}
 use contract.Lifetimes.{Lfts}
-use denote.Ref.{Bor}
+use denote.Ref.{Bor, MutBor}
 use denote.Triple.Clauses.{AtExit}
 use borrow.Fn.Kinds.{ended_of}
 use Rattle.answers.specs.Answers.{unless_refused}
@@ -22,10 +22,10 @@ use Rattle.c_header.proofs.eos_write_header.Reads as writes
 use Rattle.c_header.proofs.eos_write_header.Kinds as write-kinds
 
 -- `eos_read_header`: the number, and every word of the header.
-pub reading_asks_nothing : (κs : Lfts 2) (frame header : Bor (List ℕ)) → reads.Pre κs (frame, (header, tt))
+pub reading_asks_nothing : (κs : Lfts 2) (frame : Bor (List ℕ)) (header : MutBor (List ℕ)) → reads.Pre κs (frame, (header, tt))
 reading_asks_nothing κs frame header = tt
 
-pub read : (κs : Lfts 2) (frame header : Bor (List ℕ)) (answer : ℕ) (left : AtExit (ended_of 2 read-kinds.ps read-kinds.r) κs) → reads.Post κs (frame, (header, tt)) answer left →
+pub read : (κs : Lfts 2) (frame : Bor (List ℕ)) (header : MutBor (List ℕ)) (answer : ℕ) (left : AtExit (ended_of 2 read-kinds.ps read-kinds.r) κs) → reads.Post κs (frame, (header, tt)) answer left →
     (answer ≡ read_number (read_frame frame.now)) × (left.1.0.now ≡ read_words (read_frame frame.now) header.now)
 read κs frame header answer left promise = promise
 
@@ -37,10 +37,10 @@ pub found : (κs : Lfts 1) (frame : Bor (List ℕ)) (part : Part) (left : AtExit
 found κs frame part left promise = promise
 
 -- `eos_write_header`: the number, the length if it is 0, and every byte of the buffer.
-pub writing_asks_nothing : (κs : Lfts 3) (header out : Bor (List ℕ)) (size : Bor ℕ) → writes.Pre κs (header, (out, (size, tt)))
+pub writing_asks_nothing : (κs : Lfts 3) (header : Bor (List ℕ)) (out : MutBor (List ℕ)) (size : MutBor ℕ) → writes.Pre κs (header, (out, (size, tt)))
 writing_asks_nothing κs header out size = tt
 
-pub written : (κs : Lfts 3) (header out : Bor (List ℕ)) (size : Bor ℕ) (answer : ℕ) (left : AtExit (ended_of 3 write-kinds.ps write-kinds.r) κs) → writes.Post κs (header, (out, (size, tt))) answer left →
+pub written : (κs : Lfts 3) (header : Bor (List ℕ)) (out : MutBor (List ℕ)) (size : MutBor ℕ) (answer : ℕ) (left : AtExit (ended_of 3 write-kinds.ps write-kinds.r) κs) → writes.Post κs (header, (out, (size, tt))) answer left →
     let gives = write_words_answer (header_in header.now) (length out.now) in
     (answer ≡ gives.number)
     × ((left.1.1.0.now ≡ unless_refused gives.number gives.length size.now) × (left.1.0.now ≡ write_words_buffer (header_in header.now) out.now))

@@ -5,7 +5,7 @@ use mathlib.Core.List.{List}
 use Prim.Native.Nat.{ℕ}
 use lib.ListN.{length}
 use contract.Lifetimes.{Lfts}
-use denote.Ref.{Bor}
+use denote.Ref.{Bor, MutBor}
 use denote.Triple.Clauses.{AtExit}
 use borrow.Fn.Kinds.{ended_of}
 use Rattle.answers.specs.Answers.{unless_refused}
@@ -19,29 +19,29 @@ use Rattle.c_setup.proofs.eos_agree.Reads as agrees
 use Rattle.c_setup.proofs.eos_agree.Kinds as agree-kinds
 
 -- `eos_read_setup`: the number, every word of the setup data, and whether there is any.
-pub reading_asks_nothing : (κs : Lfts 3) (bytes setup : Bor (List ℕ)) (present : Bor ℕ) → reads.Pre κs (bytes, (setup, (present, tt)))
+pub reading_asks_nothing : (κs : Lfts 3) (bytes : Bor (List ℕ)) (setup : MutBor (List ℕ)) (present : MutBor ℕ) → reads.Pre κs (bytes, (setup, (present, tt)))
 reading_asks_nothing κs bytes setup present = tt
 
-pub read : (κs : Lfts 3) (bytes setup : Bor (List ℕ)) (present : Bor ℕ) (answer : ℕ) (left : AtExit (ended_of 3 read-kinds.ps read-kinds.r) κs) → reads.Post κs (bytes, (setup, (present, tt))) answer left →
+pub read : (κs : Lfts 3) (bytes : Bor (List ℕ)) (setup : MutBor (List ℕ)) (present : MutBor ℕ) (answer : ℕ) (left : AtExit (ended_of 3 read-kinds.ps read-kinds.r) κs) → reads.Post κs (bytes, (setup, (present, tt))) answer left →
     let gives = read_setup bytes.now in
     (answer ≡ gives.number) × ((left.1.0.now ≡ setup_words gives.setup) × (left.1.1.0.now ≡ present_word gives))
 read κs bytes setup present answer left promise = promise
 
 -- `eos_write_setup`: the number, the length if it is 0, and every byte of the buffer.
-pub writing_asks_nothing : (κs : Lfts 3) (setup out : Bor (List ℕ)) (size : Bor ℕ) → writes.Pre κs (setup, (out, (size, tt)))
+pub writing_asks_nothing : (κs : Lfts 3) (setup : Bor (List ℕ)) (out : MutBor (List ℕ)) (size : MutBor ℕ) → writes.Pre κs (setup, (out, (size, tt)))
 writing_asks_nothing κs setup out size = tt
 
-pub written : (κs : Lfts 3) (setup out : Bor (List ℕ)) (size : Bor ℕ) (answer : ℕ) (left : AtExit (ended_of 3 write-kinds.ps write-kinds.r) κs) → writes.Post κs (setup, (out, (size, tt))) answer left →
+pub written : (κs : Lfts 3) (setup : Bor (List ℕ)) (out : MutBor (List ℕ)) (size : MutBor ℕ) (answer : ℕ) (left : AtExit (ended_of 3 write-kinds.ps write-kinds.r) κs) → writes.Post κs (setup, (out, (size, tt))) answer left →
     let gives = write_setup_words_answer setup.now (length out.now) in
     (answer ≡ gives.number)
     × ((left.1.1.0.now ≡ unless_refused gives.number gives.length size.now) × (left.1.0.now ≡ write_setup_words_buffer setup.now out.now))
 written κs setup out size answer left promise = promise
 
 -- `eos_agree`: the number, and every word of the agreement if it is 0.
-pub agreeing_asks_nothing : (κs : Lfts 3) (client server agreement : Bor (List ℕ)) → agrees.Pre κs (client, (server, (agreement, tt)))
+pub agreeing_asks_nothing : (κs : Lfts 3) (client server : Bor (List ℕ)) (agreement : MutBor (List ℕ)) → agrees.Pre κs (client, (server, (agreement, tt)))
 agreeing_asks_nothing κs client server agreement = tt
 
-pub agreed : (κs : Lfts 3) (client server agreement : Bor (List ℕ)) (answer : ℕ) (left : AtExit (ended_of 3 agree-kinds.ps agree-kinds.r) κs) → agrees.Post κs (client, (server, (agreement, tt))) answer left →
+pub agreed : (κs : Lfts 3) (client server : Bor (List ℕ)) (agreement : MutBor (List ℕ)) (answer : ℕ) (left : AtExit (ended_of 3 agree-kinds.ps agree-kinds.r) κs) → agrees.Post κs (client, (server, (agreement, tt))) answer left →
     let gives = agree_words_answer client.now server.now in
     (answer ≡ gives.number) × (left.1.1.0.now ≡ unless_refused gives.number (agreement_words gives) agreement.now)
 agreed κs client server agreement answer left promise = promise

@@ -54,6 +54,7 @@ returns c = clauses (let state : State = with_reads (reads_in c.args.words.now) 
     let known : Fitting state (length c.args.out.now) c.check_state-j.result = c.check_state-j.ensures.known (not-false _ c.if-not-j.false) in
     let within : c.parts_in-p.result.taken + length c.args.piece.now ≤ length (pulled_of state) = let k = known in let pulled = k.pulled in let most = k.taken in let left = c.if-j-p.false in omega arith in
     let k = known in
-    let placed = rw (sym k.places) at (c.place-goes.ensures.answer, c.place-goes.ensures.buffer) in
+    let goes = rw (sym k.places) at c.place-goes.ensures.answer in
+    let buffer = rw (sym k.places) at c.place-goes.ensures.buffer in
     rw (← c.parts_in-p.ensures)
-    (take_done state c.args.piece.now c.args.out.now fits within _ placed.0 _ placed.1))
+    (take_done state c.args.piece.now c.args.out.now fits within _ goes _ buffer))

@@ -14,4 +14,4 @@ put_bad-end-requires c = let z = bad_short (c.args.t.lines + 1) (search rules) i
 
 pub returns : goal.returns
 returns c = clauses (let a = c.args in
-    ended_bad a.t a.out.now _ a.to _ _ (search rules) (search rules) (search rules) c.put_bad-end.ensures.buffer c.put_bad-end.ensures.end c.wrapping_add_u64.ensures)
+    ended_bad a.t a.out.now _ a.to _ _ (search rules) (search rules) (search rules) c.put_bad-end.ensures.buffer c.put_bad-end.ensures.end c.wrapping_add_u64.ensures.value)

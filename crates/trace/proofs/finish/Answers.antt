@@ -20,7 +20,7 @@ pub returns-then-has_begun : goal.returns-then-has_begun
 returns-then-has_begun c = clauses (let a = c.args in
     let begun = sym c.has_begun.ensures ∙ c.if-has_begun.true in
     finish_line a.state a.frame.now a.out.now (search rules) begun (search rules) _ _ _ _ c.feed-fed.ensures.answer c.feed-fed.ensures.buffer c.put_sums.ensures.buffer c.put_sums.ensures.end
-    (end_short c.feed-fed.result e.1.1.1.0 e.1.1.1.1.1))
+    (end_short c.feed-fed.result c.feed-fed.ensures.within.0 c.feed-fed.ensures.within.1.1))
 
 pub put_sums-requires-2 : goal.put_sums-requires-2
 put_sums-requires-2 c = let z = sums_short c.args.state.sums in
