@@ -53,7 +53,7 @@ use Rattle.assembly_state.specs.Words.{state_in}
 use Rattle.assembly_start.specs.Start.{base_of, start_number, start_words, start_buffer, start_answer}
 use Rattle.assembly_start.proofs.AnyOrder as any_order
 use Rattle.assembly.specs.Assembly.{reads_of, chunks_of, pulled_of, can_arise, piece_number, pulled_bytes_of, piece_goes, piece_answer, message_number}
-use Rattle.assembly.proofs.Goes as piece_goes_lem
+use Rattle.assembly.proofs.Goes as piece_proofs
 use Rattle.assembly.proofs.Kept as kept
 use Rattle.returned.specs.Returned.{chunk_length, reply_chunk_length, returned_answer, returned_words_number, returned_words_places}
 use Rattle.returned.specs.Filled.{filled, Fills}
@@ -82,7 +82,7 @@ use Rattle.theorems.proofs.Message as message
 use Rattle.theorems.proofs.Demand3 as demand-three
 use Rattle.theorems.proofs.Exports as exports
 use Rattle.theorems.proofs.Reserved as reserved
-use Rattle.theorems.proofs.InOrder as in_order_lem
+use Rattle.theorems.proofs.InOrder as in_order
 use Rattle.trace_text.specs.Verdict.{answer, reply_to}
 use Rattle.trace_text.proofs.Shown as shown
 use Rattle.trace.specs.Session.{Replayed, Progress}
@@ -284,35 +284,35 @@ order_2_number = λ s room size. refl
 
 -- "Return with each piece how many goes it took: the fewest such runs that make it up": runs of one segment and no gap, over every way to make the piece up.
 pub order_2_fewest : (s : State) (room size : ℕ) → piece_number s room size ≡ 0 → Fewest (take size (drop s.taken (pulled_bytes_of s))) (piece_goes s room size)
-order_2_fewest = piece_goes.fewest_goes
+order_2_fewest = piece_proofs.fewest_goes
 
 -- "at most 31": for every state, buffer length and piece. (That 31 is reached is a case of `order_2_cases`.)
 pub order_2_at_most_31 : (s : State) (room size : ℕ) → piece_goes s room size ≤ 31
-order_2_at_most_31 = piece_goes.at_most_31
+order_2_at_most_31 = piece_proofs.at_most_31
 
 -- "and 0 for an empty or a refused piece"
 pub order_2_empty : (s : State) (room : ℕ) → piece_goes s room 0 ≡ 0
-order_2_empty = piece_goes.none_for_empty
+order_2_empty = piece_proofs.none_for_empty
 
 pub order_2_refused : (s : State) (room size : ℕ) → (piece_number s room size ≡ 0 → ⊥) → piece_goes s room size ≡ 0
-order_2_refused = piece_goes.none_for_refused
+order_2_refused = piece_proofs.none_for_refused
 
 -- The bytes that are counted are those that the piece writes, each at its place.
 pub order_2_counted : (s : State) (room size : ℕ) → piece_number s room size ≡ 0 → map (λ b. b.place) (take size (drop s.taken (pulled_bytes_of s))) ≡ take size (drop s.taken (pulled_of s))
-order_2_counted = piece_goes.counted_there
+order_2_counted = piece_proofs.counted_there
 
 -- And each is counted as of its own segment, in the order of the list.
 pub order_2_list_order : (s : State) → can_arise s ≡ true → map (λ b. b.segment) (pulled_bytes_of s) ≡ segment_numbers 0 (reads_of s)
-order_2_list_order = piece_goes.in_list_order
+order_2_list_order = piece_proofs.in_list_order
 
 -- The places of all segments joined are the pulled places; each segment's own are where document 01 puts its bytes.
 pub order_2_joined : (s : State) → can_arise s ≡ true → joined (λ ps. ps) (segment_places s.kind s.base (reads_of s)) ≡ pulled_of s
-order_2_joined = piece_goes.joined_places
+order_2_joined = piece_proofs.joined_places
 
 pub order_2_own_places : (s : State) (before : List ReadSegment) (x : ReadSegment) (behind : List ReadSegment) → can_arise s ≡ true → reads_of s ≡ before ++ (x ∷ behind) →
     ((x.position ≡ 0 → ⊥) → get_or (segment_places s.kind s.base (reads_of s)) (length before) [] ≡ from (x.position + position_length x.position before) x.target.length)
     × (x.position ≡ 0 → get_or (segment_places s.kind s.base (reads_of s)) (length before) [] ≡ take x.target.length (drop (position_length x.position before) (base_places s.base (chunks_of s))))
-order_2_own_places = piece_goes.own_places
+order_2_own_places = piece_proofs.own_places
 
 -- Order 2, case by case in numbers: 31 among them.
 pub order_2_cases : All Holds goes_cases
