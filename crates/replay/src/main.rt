@@ -4,7 +4,37 @@
 
 ghost use Rattle.std.specs.Prelude.{◌≤◌, length};
 
+use std::fmt;
+use std::fmt::Write;
+use std::io::{Error, Print, Read, Stderr, Stdin, Stdout};
 use trace::TraceState;
+
+// The parts of the process that a replay needs: what is read, what is reported, and where a failure is told.
+#[derive(Drop)]
+pub struct Ends {
+    pub input: Stdin,
+    pub output: Stdout,
+    pub errors: Stderr,
+}
+
+// The words of a system error: as many as there is room for.
+#[derive(Drop)]
+pub struct Words {
+    pub bytes: [u8; 256],
+    pub len: usize,
+}
+
+impl fmt::Write for Words {
+    fn write_str(&mut self, s: &str) -> fmt::Result {
+        for b in s.as_bytes() {
+            if self.len < self.bytes.len() {
+                self.bytes[self.len] = *b;
+                self.len += 1;
+            }
+        }
+        Ok(())
+    }
+}
 
 // A replay after a block: its state, and whether the report goes on.
 #[derive(Clone, Copy)]
@@ -13,17 +43,59 @@ pub struct Fed {
     pub goes_on: bool,
 }
 
-// Writes a part of the report, and says whether it could.
-fn write_part(text: &[u8]) -> bool {
-    if io::write_all(libc::STDOUT_FILENO, text) {
-        return true;
+// How many bytes of a system error's words come before its number, which the library puts behind them.
+fn without_number(words: &[u8]) -> usize
+    ensures { result ≤ length words.now }
+{
+    let number = b" (os error ";
+    for i in 0..words.len() {
+        if words[i..].starts_with(number) {
+            return i;
+        }
     }
-    os::fail(b"replay: the report cannot be written");
-    false
+    words.len()
+}
+
+// The words of a system error.
+fn words_of(error: &Error) -> Words {
+    let mut words = Words {
+        bytes: [0u8; 256],
+        len: 0,
+    };
+    let _ = write!(words, "{error}");
+    words
+}
+
+// Writes a line to standard error: what failed, a colon and the system's words.
+fn tell(ends: &Ends, what: &[u8], error: &Error) {
+    let words = words_of(error);
+    let most = words.len.min(words.bytes.len());
+    let n = without_number(&words.bytes[..most]);
+    let _ = ends.errors.write_all(what);
+    let _ = ends.errors.write_all(b": ");
+    let _ = ends.errors.write_all(&words.bytes[..n]);
+    let _ = ends.errors.write_all(b"\n");
+}
+
+// Writes a part of the report, and says whether it could.
+fn write_part(ends: &Ends, text: &[u8]) -> bool {
+    match ends.output.write_all(text) {
+        Ok(()) => true,
+        Err(error) => {
+            tell(ends, b"replay: the report cannot be written", &error);
+            false
+        }
+    }
 }
 
 // Feeds a block, and writes what it gives whenever the buffer has no room for another line.
-fn feed_block(state: TraceState, block: &[u8], frame: &mut [u8; 4096], out: &mut [u8]) -> Fed
+fn feed_block(
+    ends: &Ends,
+    state: TraceState,
+    block: &[u8],
+    frame: &mut [u8; 4096],
+    out: &mut [u8],
+) -> Fed
     requires { 22 ≤ length out.old }
 {
     let mut s = state;
@@ -33,7 +105,7 @@ fn feed_block(state: TraceState, block: &[u8], frame: &mut [u8; 4096], out: &mut
         s = part.state;
         i += part.used;
         let n = part.written;
-        if !write_part(&out[..n]) {
+        if !write_part(ends, &out[..n]) {
             return Fed {
                 state: s,
                 goes_on: false,
@@ -47,35 +119,36 @@ fn feed_block(state: TraceState, block: &[u8], frame: &mut [u8; 4096], out: &mut
 }
 
 // Writes what the end of the input adds.
-fn end_report(state: TraceState, frame: &[u8; 4096]) {
+fn end_report(ends: &Ends, state: TraceState, frame: &[u8; 4096]) {
     let mut last = [0u8; 135];
     let n = trace::finish(state, frame, &mut last);
-    write_part(&last[..n]);
+    write_part(ends, &last[..n]);
 }
 
 // Reads blocks, as they come, until the input ends or nothing more is to be reported.
-fn report_input(block: &mut [u8], frame: &mut [u8; 4096], out: &mut [u8])
+fn report_input(ends: &mut Ends, block: &mut [u8], frame: &mut [u8; 4096], out: &mut [u8])
     requires { 22 ≤ length out.old }
 {
     let mut first = [0u8; 27];
     let mut s = trace::start(&mut first);
-    if !write_part(&first) {
+    if !write_part(ends, &first) {
         return;
     }
     // As many reads as a number can count: the language has no endless loop.
     let mut turns = u64::MAX;
     while turns > 0 {
-        let got = libc::read(libc::STDIN_FILENO, block);
-        if got < 0 {
-            os::fail(b"replay: the trace cannot be read");
-            return;
-        }
-        let n = io::count(got, block);
+        let n = match ends.input.read(block) {
+            Ok(n) => n,
+            Err(error) => {
+                tell(ends, b"replay: the trace cannot be read", &error);
+                return;
+            }
+        };
         if n == 0 {
-            end_report(s, frame);
+            end_report(ends, s, frame);
             return;
         }
-        let p = feed_block(s, &block[..n], frame, out);
+        let p = feed_block(ends, s, &block[..n], frame, out);
         if !p.goes_on {
             return;
         }
@@ -84,9 +157,14 @@ fn report_input(block: &mut [u8], frame: &mut [u8; 4096], out: &mut [u8])
     }
 }
 
-fn main() {
-    let mut block = io::large_buffer();
-    let mut frame = io::buffer();
-    let mut out = io::large_buffer();
-    report_input(&mut block, &mut frame, &mut out);
+fn main(rt: HostRuntime) {
+    let mut ends = Ends {
+        input: rt.stdin(),
+        output: rt.stdout(),
+        errors: rt.stderr(),
+    };
+    let mut block = [0u8; 65536];
+    let mut frame = [0u8; 4096];
+    let mut out = [0u8; 65536];
+    report_input(&mut ends, &mut block, &mut frame, &mut out);
 }

@@ -8,20 +8,20 @@ use borrow.Author.Rules.{rules}
 use Rattle.replay.proofs.feed_block.Goals as goal
 
 pub overflow_add-i : goal.overflow_add-i
-overflow_add-i c = let z = rest_length c.args.block.now c.loop-i.i c.feed-part.result.used (search rules) c.feed-part.ensures.1.1.1.0 in
+overflow_add-i c = let z = rest_length c.args.block.now c.loop-i.i c.feed-part.result.used (search rules) c.feed-part.ensures.within.0 in
     search rules
 
 pub slice_bounds-write_part-end : goal.slice_bounds-write_part-end
-slice_bounds-write_part-end c = let few = c.feed-part.ensures.1.1.1.1.0 in search rules
+slice_bounds-write_part-end c = let few = c.feed-part.ensures.within.1.0 in search rules
 
 pub slice_bounds-write_part-end-in-loop-i : goal.slice_bounds-write_part-end-in-loop-i
-slice_bounds-write_part-end-in-loop-i c = let few = c.feed-part.ensures.1.1.1.1.0 in simp length-take (omega arith)
+slice_bounds-write_part-end-in-loop-i c = let few = c.feed-part.ensures.within.1.0 in simp length-take (omega arith)
 
 pub loop-i-smaller : goal.loop-i-smaller
-loop-i-smaller c = let z = rest_length c.args.block.now c.loop-i.i c.feed-part.result.used (search rules) c.feed-part.ensures.1.1.1.0 in
+loop-i-smaller c = let z = rest_length c.args.block.now c.loop-i.i c.feed-part.result.used (search rules) c.feed-part.ensures.within.0 in
     let some_used = feeds_some c.feed-part.result _ _ _ _ c.feed-part.ensures.answer (search rules) (rest_some c.args.block.now c.loop-i.i (search rules)) in
     omega arith
 
 pub loop-i-preserved : goal.loop-i-preserved
-loop-i-preserved c = let z = rest_length c.args.block.now c.loop-i.i c.feed-part.result.used (search rules) c.feed-part.ensures.1.1.1.0 in
+loop-i-preserved c = let z = rest_length c.args.block.now c.loop-i.i c.feed-part.result.used (search rules) c.feed-part.ensures.within.0 in
     (search rules, search rules, search rules, search rules)

@@ -7,7 +7,7 @@ use borrow.Author.Rules.{rules}
 use Rattle.replay.proofs.report_input.Given as goal
 
 abbrev pub invariant-loop-turns : goal.invariant-loop-turns
-invariant-loop-turns l = (length l.frame ≡ length l.initial.block) × (length l.s ≡ length l.initial.out) × (22 ≤ length l.initial.out)
+invariant-loop-turns l = (length l.out ≡ length l.initial.out) × (22 ≤ length l.initial.out)
 
 abbrev pub decreases-loop-turns : goal.decreases-loop-turns
-decreases-loop-turns l = reads
+decreases-loop-turns l = l.turns
