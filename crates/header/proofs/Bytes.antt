@@ -3,14 +3,11 @@
 use mathlib.Core.Path.{◌≡◌, refl, ap, ◌∙◌}
 use mathlib.Core.Bool.{Bool, true, false, cond}
 use mathlib.Core.List.{List, [], ◌∷◌, ◌++◌, map}
-use mathlib.Core.Logic.{⊎_elim}
 use Prim.Native.Nat.{ℕ, ◌+◌, ◌*◌, ◌≤◌, ◌<◌}
 use native.Mathlib.Numerals.{add-one}
 use native.Mathlib.Omega.{arith}
 use lib.ListN.{length, take, drop, get_or, length-append}
 use lib.Seq.{take-suc, drop-drop, length-take-le}
-use denote.Enum.Declared.{tag_of}
-use types.Run.{OneOf}
 use Rattle.wire.specs.Wire.{joined, word_bytes, segment_bytes, read_segment_bytes}
 use Rattle.wire.specs.declared.Segment.{Segment}
 use Rattle.wire.specs.declared.ReadSegment.{ReadSegment}
@@ -19,7 +16,6 @@ use Rattle.header.specs.Content.{runs, reply_of}
 use Rattle.header.specs.declared.Kind.{Kind}
 use Rattle.header.specs.declared.Kind.TheVariants.{Msg, Nomsg, Error}
 use Rattle.header.specs.declared.ErrorKind.{ErrorKind}
-use Rattle.header.specs.contracts.Kind.{the_type}
 use Rattle.header.specs.Bytes.{entry_bytes, counted_bytes, chunk_bytes, read_list_bytes, write_list_bytes, reply_bytes, rest_bytes, error_bytes, fixed_bytes}
 use Rattle.header.specs.Limits.{total}
 use Rattle.header.proofs.Contents.{length_runs, lengths_runs}

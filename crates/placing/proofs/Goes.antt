@@ -11,7 +11,7 @@ use lib.Dec.{leb, eqb}
 use borrow.Author.Tests.{leb-true, leb-false, eq-eqb, ne_eqb}
 use Rattle.wire.specs.Wire.{joined}
 use Rattle.layout.specs.Places.{from}
-use Rattle.layout.specs.Layout.{run, rounded_up, places, gaps}
+use Rattle.layout.specs.Layout.{rounded_up, places, gaps}
 use Rattle.layout.specs.declared.Run.{Run}
 use Rattle.layout.proofs.Scatter.{length_from, from_add}
 use Rattle.layout.proofs.Apart.{Below, NotBelow, below_from}

@@ -9,7 +9,7 @@ use Rattle.trace_line.specs.Line.{frame_in, is_begun}
 use Rattle.trace_line.specs.declared.Line.{Line}
 use Rattle.trace_line.specs.declared.Line.TheVariants.{Digits, Bad}
 use Rattle.trace_line.proofs.Decoded.{frame_in_most}
-use Rattle.trace_text.specs.Verdict.{answer, verdict_of}
+use Rattle.trace_text.specs.Verdict.{verdict_of}
 use Rattle.trace_text.specs.Text.{heading, verdict_text, bad_text}
 use Rattle.trace_text.specs.declared.Sums.{Sums}
 use Rattle.trace_text.specs.declared.Verdict.{Verdict}

@@ -3,7 +3,6 @@
 use Rattle.std.proofs.Common.{◌≡◌, ℕ, suc, ◌+◌, ◌<◌, Bool, true, false, cond, eqb, leb, ◌⊎◌, List, [], ◌∷◌, ◌++◌, length, take, sym, refl, ap, ◌∙◌, inl, inr, append_assoc, append-nil, leb-false}
 use Rattle.trace_line.specs.Line.{newline}
 use Rattle.trace_text.specs.Text.{heading}
-use Rattle.trace.specs.Report.{report}
 use Rattle.trace.specs.Feeding.{Reading, start_state, max_line_bytes, next, reads, taken, begun, is_full, stops, ends_line, goes_on, feed_used, feed_reading, finish_text}
 use Rattle.trace.specs.Session.{Feed, written_by, taken_by, Replayed, Progress}
 use Rattle.trace.specs.declared.TraceState.{TraceState}

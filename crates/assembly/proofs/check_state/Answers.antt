@@ -1,6 +1,5 @@
 -- `assembly::check_state` meets its contract.
 use mathlib.Core.Path.{refl, sym, ◌∙◌}
-use borrow.Author.Rules.{rules}
 use Rattle.chunk_lists.specs.Words.{reads_in}
 use Rattle.layout.proofs.ReadsWalk.{FineReads, fine_told}
 use Rattle.assembly_state.specs.State.{State}

@@ -4,7 +4,6 @@ use Rattle.assembly_state.specs.Words.{with_reads}
 use Rattle.chunk_lists.specs.Words.{reads_in}
 use borrow.Author.Tests.{not-true, not-false}
 use mathlib.Core.Path.{sym, ◌∙◌}
-use borrow.Author.Rules.{rules}
 use Rattle.assembly.proofs.message_answer.Goals as goal
 
 pub returns-then-not-j : goal.returns-then-not-j

@@ -2,7 +2,6 @@
 use Rattle.assembly.specs.Internal.StateCheck.{message_answer}
 use Rattle.assembly.specs.declared.MessageAnswer.{MessageAnswer}
 use mathlib.Core.Path.{ap}
-use borrow.Author.Rules.{rules}
 use Rattle.assembly.proofs.message_number.Goals as goal
 
 pub returns : goal.returns

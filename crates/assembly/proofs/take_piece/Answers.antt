@@ -1,7 +1,6 @@
 -- `assembly::take_piece` meets its contract.
 use lib.ListN.{length}
 use Rattle.assembly.proofs.Pieces.{answer_is, words_kept, words_counted}
-use borrow.Author.Rules.{rules}
 use Rattle.assembly.proofs.take_piece.Goals as goal
 
 -- The clauses, from all of them at once.

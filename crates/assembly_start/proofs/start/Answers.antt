@@ -1,6 +1,5 @@
 -- `assembly_start::start` meets its contract.
 use Rattle.assembly_state.proofs.Words.{zero_state}
-use borrow.Author.Rules.{rules}
 use Rattle.assembly_start.proofs.start.Goals as goal
 
 pub returns : goal.returns

@@ -1,6 +1,5 @@
 -- `assembly_state::parts_in` meets its contract.
 use Rattle.assembly_state.specs.Words.{parts_in}
-use borrow.Author.Rules.{rules}
 use Rattle.assembly_state.proofs.parts_in.Goals as goal
 
 pub returns : goal.returns

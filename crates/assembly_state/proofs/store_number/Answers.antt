@@ -1,7 +1,6 @@
 -- `assembly_state::store_number` meets its contract.
 use Rattle.wire.specs.Wire.{stored}
 use native.Mathlib.Numerals.{add-one}
-use borrow.Author.Rules.{rules}
 use Rattle.assembly_state.proofs.store_number.Goals as goal
 
 pub returns : goal.returns

@@ -1,6 +1,5 @@
 -- `assembly_state::store_parts` meets its contract.
 use Rattle.wire.specs.Wire.{stored}
-use borrow.Author.Rules.{rules}
 use Rattle.assembly_state.proofs.store_parts.Goals as goal
 
 pub returns : goal.returns

@@ -4,7 +4,6 @@ use borrow.Author.Tests.{ne_eqb}
 use Rattle.c_assembly.specs.Message.{message_size}
 use Rattle.assembly.specs.Internal.StateCheck.{message_answer}
 use Rattle.assembly.specs.declared.MessageAnswer.{MessageAnswer}
-use borrow.Author.Rules.{rules}
 use Rattle.c_assembly.proofs.eos_message.Goals as goal
 
 -- The clauses, from all of them at once.

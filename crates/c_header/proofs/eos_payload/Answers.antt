@@ -2,7 +2,6 @@
 use Rattle.reader.proofs.FrameParts.{payload_short}
 use borrow.Author.Tests.{eq-eqb, ne_eqb}
 use Rattle.c_header.specs.Part.{part_of}
-use borrow.Author.Rules.{rules}
 use Rattle.c_header.proofs.eos_payload.Goals as goal
 
 pub returns-then-n-eq0 : goal.returns-then-n-eq0

@@ -1,7 +1,6 @@
 -- `c_reply::eos_error_reply` meets its contract.
 use mathlib.Core.Path.{refl}
 use borrow.Author.Tests.{ne_eqb}
-use borrow.Author.Rules.{rules}
 use Rattle.c_reply.proofs.eos_error_reply.Goals as goal
 
 -- The clauses, from all of them at once.

@@ -3,7 +3,6 @@ use mathlib.Core.Path.{refl}
 use borrow.Author.Tests.{ne_eqb}
 use Rattle.c_setup.specs.Words.{agreement_words}
 use Rattle.c_setup.proofs.SetupWords.{no_client, no_server, two_sides}
-use borrow.Author.Rules.{rules}
 use Rattle.c_setup.proofs.eos_agree.Goals as goal
 
 -- The clauses, from all of them at once.

@@ -1,7 +1,6 @@
 -- `c_setup::eos_read_setup` meets its contract.
 use mathlib.Core.Path.{refl}
 use Rattle.c_setup.specs.Words.{setup_words}
-use borrow.Author.Rules.{rules}
 use Rattle.c_setup.proofs.eos_read_setup.Goals as goal
 
 -- The clauses, from all of them at once.

@@ -3,7 +3,6 @@ use mathlib.Core.Path.{refl}
 use borrow.Author.Tests.{ne_eqb}
 use lib.ListN.{length}
 use Rattle.c_setup.proofs.SetupWords.{no_flag, a_flag}
-use borrow.Author.Rules.{rules}
 use Rattle.c_setup.proofs.eos_write_setup.Goals as goal
 
 -- The clauses, from all of them at once.

@@ -1,7 +1,6 @@
 -- `c_setup::setup_in` meets its contract.
 use mathlib.Core.Path.{refl}
 use Rattle.c_setup.specs.Words.{setup_in}
-use borrow.Author.Rules.{rules}
 use Rattle.c_setup.proofs.setup_in.Goals as goal
 
 pub returns : goal.returns

@@ -1,6 +1,5 @@
 -- `chunk_lists::check_chunk` meets its contract.
 use mathlib.Core.Path.{◌∙◌}
-use borrow.Author.Rules.{rules}
 use Rattle.wire.proofs.Fields.{part_from}
 use Rattle.chunk_lists.specs.Internal.Steps.{chunk_step}
 use Rattle.chunk_lists.specs.declared.ChunkStep.TheVariants as chunk

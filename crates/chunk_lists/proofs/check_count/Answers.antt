@@ -1,5 +1,4 @@
 -- `chunk_lists::check_count` meets its contract.
-use borrow.Author.Rules.{rules}
 use Rattle.chunk_lists.proofs.ListSteps.{count_unread, count_over, count_short, count_chunk}
 use Rattle.chunk_lists.proofs.check_count.Goals as goal
 

@@ -1,7 +1,6 @@
 -- `chunk_lists::check_marker` meets its contract.
 use borrow.Author.Tests.{eq-eqb, ne_eqb}
 use Rattle.chunk_lists.specs.Lists.{marker_of}
-use borrow.Author.Rules.{rules}
 use Rattle.chunk_lists.proofs.check_marker.Goals as goal
 
 pub returns-in_default : goal.returns-in_default

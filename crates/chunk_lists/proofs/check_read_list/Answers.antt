@@ -1,6 +1,5 @@
 -- `chunk_lists::check_read_list` meets its contract.
 use native.Mathlib.Omega.{arith}
-use borrow.Author.Rules.{rules}
 use Rattle.chunk_lists.proofs.ListBytes.{marker_there, no_entries, entries_number_lem, entries_refused, entries_long, entries_done}
 use Rattle.chunk_lists.proofs.check_read_list.Goals as goal
 

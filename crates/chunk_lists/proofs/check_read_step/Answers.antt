@@ -1,6 +1,5 @@
 -- `chunk_lists::check_read_step` meets its contract.
 use mathlib.Core.Path.{◌∙◌}
-use borrow.Author.Rules.{rules}
 use Rattle.wire.proofs.Fields.{part_from}
 use Rattle.chunk_lists.specs.Internal.Steps.{read_step}
 use Rattle.chunk_lists.specs.declared.ReadStep.TheVariants as read

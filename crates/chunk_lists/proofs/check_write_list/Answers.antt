@@ -1,6 +1,5 @@
 -- `chunk_lists::check_write_list` meets its contract.
 use native.Mathlib.Omega.{arith}
-use borrow.Author.Rules.{rules}
 use Rattle.chunk_lists.proofs.ListBytes.{marker_there, no_chunks, chunks_number, chunks_refused, chunks_long, chunks_done}
 use Rattle.chunk_lists.proofs.check_write_list.Goals as goal
 

@@ -1,16 +1,9 @@
 -- `chunk_lists::decode_read_list` meets its contract.
-use mathlib.Core.Path.{◌∙◌}
 use Prim.Native.Nat.{◌-◌}
-use native.Mathlib.Omega.{arith}
-use borrow.Author.Rules.{rules}
-use Rattle.wire.specs.Wire.{zero_read_segment}
 use Rattle.wire.specs.Words.{read_segment_words}
-use Rattle.wire.proofs.Words.{read_segment_words_lem}
 use Rattle.chunk_lists.specs.Parsed.{each}
 use Rattle.chunk_lists.specs.Internal.Steps.{marked_segment_at}
-use Rattle.chunk_lists.specs.Words.{reads_words}
-use Rattle.chunk_lists.proofs.Items.{Storing, storing_starts, storing_next, storing_ends, length_each}
-use Rattle.chunk_lists.proofs.ListBytes.{entry_here}
+use Rattle.chunk_lists.proofs.Items.{Storing}
 use Rattle.chunk_lists.proofs.decode_read_list.Given as goal
 
 abbrev pub invariant-loop-k : goal.invariant-loop-k

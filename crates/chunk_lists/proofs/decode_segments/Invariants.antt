@@ -1,15 +1,10 @@
 -- `chunk_lists::decode_segments` meets its contract.
-use mathlib.Core.Path.{refl, ◌∙◌}
 use Prim.Native.Nat.{◌-◌}
-use borrow.Author.Rules.{rules}
 use lib.ListN.{drop}
-use Rattle.wire.specs.Wire.{segment_at, zero_segment}
+use Rattle.wire.specs.Wire.{segment_at}
 use Rattle.wire.specs.Words.{segment_words}
-use Rattle.wire.proofs.Words.{segment_words_lem}
 use Rattle.chunk_lists.specs.Parsed.{each}
-use Rattle.chunk_lists.specs.Words.{segments_words}
-use Rattle.chunk_lists.proofs.Items.{Storing, storing_starts, storing_next, storing_ends, length_each}
-use Rattle.chunk_lists.proofs.ListBytes.{segment_there}
+use Rattle.chunk_lists.proofs.Items.{Storing}
 use Rattle.chunk_lists.proofs.decode_segments.Given as goal
 
 abbrev pub invariant-loop-k : goal.invariant-loop-k

@@ -1,10 +1,8 @@
 -- `chunk_lists::decode_write_list` meets its contract.
 use mathlib.Core.Path.{refl}
-use Prim.Native.Nat.{◌-◌}
 use native.Mathlib.Omega.{arith}
-use borrow.Author.Rules.{rules}
 use lib.ListN.{length-set}
-use Rattle.chunk_lists.proofs.Words.{Decoding, decoding_starts, decoding_fits, decoding_next, decoding_ends}
+use Rattle.chunk_lists.proofs.Words.{decoding_starts, decoding_fits, decoding_next, decoding_ends}
 use Rattle.chunk_lists.proofs.decode_write_list.Goals as goal
 
 pub loop-i-init : goal.loop-i-init

@@ -1,10 +1,6 @@
 -- `chunk_lists::decode_write_list` meets its contract.
-use mathlib.Core.Path.{refl}
 use Prim.Native.Nat.{◌-◌}
-use native.Mathlib.Omega.{arith}
-use borrow.Author.Rules.{rules}
-use lib.ListN.{length-set}
-use Rattle.chunk_lists.proofs.Words.{Decoding, decoding_starts, decoding_fits, decoding_next, decoding_ends}
+use Rattle.chunk_lists.proofs.Words.{Decoding}
 use Rattle.chunk_lists.proofs.decode_write_list.Given as goal
 
 abbrev pub invariant-loop-i : goal.invariant-loop-i

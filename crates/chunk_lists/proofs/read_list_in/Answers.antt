@@ -1,10 +1,7 @@
 -- `chunk_lists::read_list_in` meets its contract.
-use Prim.Native.Nat.{◌-◌}
-use borrow.Author.Rules.{rules}
 use lib.ListN.{length-replicate}
 use Rattle.wire.specs.Wire.{zero_read_segment}
-use Rattle.chunk_lists.specs.Words.{reads_in}
-use Rattle.chunk_lists.proofs.Items.{Storing, single, storing_starts, filling_next, filling_ends}
+use Rattle.chunk_lists.proofs.Items.{storing_starts, filling_next, filling_ends}
 use Rattle.chunk_lists.proofs.Words.{length_reads}
 use Rattle.chunk_lists.proofs.read_list_in.Goals as goal
 

@@ -1,13 +1,11 @@
 -- `chunk_lists::store_read_list` meets its contract.
 use mathlib.Core.Path.{refl}
-use Prim.Native.Nat.{◌-◌}
 use native.Mathlib.Omega.{arith}
 use borrow.Author.Rules.{rules}
 use Rattle.wire.specs.Wire.{zero_read_segment}
-use Rattle.wire.specs.Words.{read_segment_words}
 use Rattle.wire.proofs.Words.{read_segment_words_lem}
 use Rattle.chunk_lists.specs.Words.{reads_words}
-use Rattle.chunk_lists.proofs.Items.{Storing, storing_starts, storing_next, storing_ends}
+use Rattle.chunk_lists.proofs.Items.{storing_starts, storing_next, storing_ends}
 use Rattle.chunk_lists.proofs.store_read_list.Goals as goal
 
 pub loop-k-init : goal.loop-k-init

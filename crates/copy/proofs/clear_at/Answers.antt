@@ -1,8 +1,7 @@
 -- `copy::clear_at` meets its contract.
 use mathlib.Core.Path.{◌≡◌, refl}
-use Prim.Native.Nat.{◌≤◌, ◌-◌}
 use native.Mathlib.Omega.{arith}
-use lib.ListN.{length, replicate, length-set}
+use lib.ListN.{length-set}
 use borrow.Author.Rules.{rules}
 use Rattle.wire.specs.Wire.{stored}
 use Rattle.copy.proofs.Blocks.{zero_more}

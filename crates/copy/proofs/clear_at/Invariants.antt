@@ -1,11 +1,8 @@
 -- `copy::clear_at` meets its contract.
-use mathlib.Core.Path.{◌≡◌, refl}
+use mathlib.Core.Path.{◌≡◌}
 use Prim.Native.Nat.{◌≤◌, ◌-◌}
-use native.Mathlib.Omega.{arith}
-use lib.ListN.{length, replicate, length-set}
-use borrow.Author.Rules.{rules}
+use lib.ListN.{length, replicate}
 use Rattle.wire.specs.Wire.{stored}
-use Rattle.copy.proofs.Blocks.{zero_more}
 use Rattle.copy.proofs.clear_at.Given as goal
 
 abbrev pub invariant-loop-i : goal.invariant-loop-i

@@ -1,7 +1,6 @@
 -- `copy::copy_at` meets its contract.
 use Rattle.copy.proofs.Blocks.{lent_back}
 use native.Mathlib.Omega.{arith}
-use borrow.Author.Rules.{rules}
 use Rattle.copy.proofs.copy_at.Goals as goal
 
 pub returns : goal.returns

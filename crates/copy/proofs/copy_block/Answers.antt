@@ -2,7 +2,7 @@
 use borrow.Author.Rules.{rules}
 use native.Mathlib.Omega.{arith}
 use lib.ListN.{length, length-set, take, drop, get_or, set}
-use Prim.Native.Nat.{◌≤◌, ◌-◌, ◌+◌, ℕ, ◌<◌}
+use Prim.Native.Nat.{◌+◌, ℕ, ◌<◌}
 use mathlib.Core.Path.{◌≡◌, refl, sym, ap, ◌∙◌}
 use lib.Seq.{paste, paste-suc, take-length, take-suc, take-suc-set}
 use native.Mathlib.Numerals.{add-one}
@@ -50,15 +50,15 @@ loop-j-init c = let l = c.loop-i in
 
 pub loop-j-preserved : goal.loop-j-preserved
 loop-j-preserved c = let l = c.loop-j in (
-      search rules,
-      search rules,
-      search rules,
-      search rules,
-      search rules,
-      simp length-set (search rules),
-      search rules,
-      copied_more c.args.out.now c.loop-i.block l.out l.j l.invariant.7 (omega arith) (omega arith),
-    )
+  search rules,
+  search rules,
+  search rules,
+  search rules,
+  search rules,
+  simp length-set (search rules),
+  search rules,
+  copied_more c.args.out.now c.loop-i.block l.out l.j l.invariant.7 (omega arith) (omega arith),
+)
 
 pub returns : goal.returns
 returns c = let l = c.loop-j in

@@ -1,13 +1,8 @@
 -- `copy::copy_block` meets its contract.
-use borrow.Author.Rules.{rules}
-use native.Mathlib.Omega.{arith}
-use lib.ListN.{length, length-set, take, drop, get_or, set}
-use Prim.Native.Nat.{◌≤◌, ◌-◌, ◌+◌, ℕ, ◌<◌}
-use mathlib.Core.Path.{◌≡◌, refl, sym, ap, ◌∙◌}
-use lib.Seq.{paste, paste-suc, take-length, take-suc, take-suc-set}
-use native.Mathlib.Numerals.{add-one}
-use native.Mathlib.Nat.{zero-add}
-use mathlib.Core.List.{List, ◌++◌, [], ◌∷◌}
+use lib.ListN.{length, take}
+use Prim.Native.Nat.{◌≤◌, ◌-◌}
+use mathlib.Core.Path.{◌≡◌}
+use lib.Seq.{paste}
 use Rattle.copy.proofs.copy_block.Given as goal
 
 abbrev pub invariant-loop-i : goal.invariant-loop-i

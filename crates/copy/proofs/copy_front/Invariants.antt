@@ -1,13 +1,8 @@
 -- `copy::copy_front` meets its contract.
-use borrow.Author.Rules.{rules}
-use native.Mathlib.Omega.{arith}
-use lib.ListN.{length, take, drop, length-drop}
-use Prim.Native.Nat.{◌≤◌, ◌-◌, ◌+◌, ℕ}
-use mathlib.Core.Path.{◌≡◌, refl, sym, ap, ◌∙◌}
-use lib.Seq.{take-length, drop-length, take_at, drop_at, take-add, drop-drop, length-take-le}
-use borrow.Rule.Slice.PartMut.{put_mid}
-use native.Mathlib.Nat.{add-sub_cancel_left}
-use mathlib.Core.List.{List, ◌++◌, [], append_assoc, append-nil}
+use lib.ListN.{length, take, drop}
+use Prim.Native.Nat.{◌≤◌, ◌-◌}
+use mathlib.Core.Path.{◌≡◌}
+use mathlib.Core.List.{◌++◌}
 use Rattle.copy.proofs.copy_front.Given as goal
 
 abbrev pub invariant-loop-i : goal.invariant-loop-i

@@ -2,7 +2,6 @@
 use Rattle.credit.proofs.Granting.{positive}
 use borrow.Author.Tests.{le-leb}
 use Rattle.credit.specs.Credit.{grant_answer}
-use borrow.Author.Rules.{rules}
 use Rattle.credit.proofs.grant.Goals as goal
 
 pub returns-then-limit-eq0 : goal.returns-then-limit-eq0

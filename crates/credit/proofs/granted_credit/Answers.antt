@@ -15,6 +15,6 @@ pub returns : goal.returns
 returns c =
     let within = c.if-limit-wanted.false in
     elim c.if-asked-eq0.branch [
-      then-asked-eq0 w ↦ w.wanted-is ∙ sym (none_asked _ w.if-asked-eq0.true)
-    | else-asked-eq0 w ↦ w.wanted-is ∙ sym (as_asked w.if-asked-eq0.false (omega arith))
+      | then-asked-eq0 w ↦ w.wanted-is ∙ sym (none_asked _ w.if-asked-eq0.true)
+      | else-asked-eq0 w ↦ w.wanted-is ∙ sym (as_asked w.if-asked-eq0.false (omega arith))
     ]

@@ -2,7 +2,6 @@
 use Rattle.wire.proofs.Fields.{then}
 use mathlib.Core.Path.{refl}
 use Rattle.wire.specs.Wire.{words, joined, word_bytes}
-use borrow.Author.Rules.{rules}
 use Rattle.error_reply.proofs.encode_version.Goals as goal
 
 pub returns : goal.returns

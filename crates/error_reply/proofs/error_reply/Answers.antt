@@ -1,15 +1,12 @@
 -- `error_reply::error_reply` meets its contract.
 use Rattle.credit.proofs.Granting.{positive}
 use Rattle.error_reply.proofs.ReplyTable.{none_fits}
-use Rattle.error_reply.proofs.ReplyWritten.{none_length, no_length, reply_length_lem, chunk_room, both_kept, one_kept, chunk_stored, version_stored, reply_stored}
-use mathlib.Core.Path.{refl, sym, ap, ◌∙◌}
-use mathlib.Core.Logic.{⊎_elim}
+use Rattle.error_reply.proofs.ReplyWritten.{none_length, no_length, reply_length_lem, chunk_room, chunk_stored, version_stored, reply_stored}
+use mathlib.Core.Path.{refl, sym, ◌∙◌}
 use native.Mathlib.Omega.{arith}
-use lib.ListN.{length}
 use borrow.Author.Tests.{le-leb, lt-leb}
 use Rattle.error_reply.specs.Reply.{error_reply_answer, error_reply_buffer, error_reply_number, error_reply, reply_kind_for}
 use Rattle.wire.specs.Wire.{words, joined}
-use borrow.Author.Rules.{rules}
 use Rattle.error_reply.proofs.error_reply.Goals as goal
 use Rattle.error_reply.proofs.error_reply.Goals.{then-n-eq-VERSION_ERROR_BYTES, else-n-eq-VERSION_ERROR_BYTES}
 
@@ -47,12 +44,12 @@ encode_chunk-requires c = let room = chunk_room _ _ _ c.length_of-n.ensures c.if
 
 pub returns-then-n-eq-CHUNK_ERROR_BYTES : goal.returns-then-n-eq-CHUNK_ERROR_BYTES
 returns-then-n-eq-CHUNK_ERROR_BYTES c = clauses (elim c.if-n-eq-VERSION_ERROR_BYTES.branch [
-      then-n-eq-VERSION_ERROR_BYTES w ↦ absurd (omega (arith, w.if-n-eq-VERSION_ERROR_BYTES.true, c.if-n-eq-CHUNK_ERROR_BYTES.true))
-    | else-n-eq-VERSION_ERROR_BYTES w ↦ reply_stored _ _ _ _ _ _ _ _ _ (positive _ c.if-limit-eq0.false) c.if-number-gt-LAST_NUMBER.false c.kind_for.ensures c.length_of-n.ensures c.if-out-n.false c.word_at-asked.ensures c.granted_credit.ensures (chunk_stored _ _ _ _ _ _ _ _ c.length_of-n.ensures c.if-n-eq-CHUNK_ERROR_BYTES.true (rw (← w.out-is) c.put_word.ensures) c.encode_chunk.ensures)
-    ])
+  | then-n-eq-VERSION_ERROR_BYTES w ↦ absurd (omega (arith, w.if-n-eq-VERSION_ERROR_BYTES.true, c.if-n-eq-CHUNK_ERROR_BYTES.true))
+  | else-n-eq-VERSION_ERROR_BYTES w ↦ reply_stored _ _ _ _ _ _ _ _ _ (positive _ c.if-limit-eq0.false) c.if-number-gt-LAST_NUMBER.false c.kind_for.ensures c.length_of-n.ensures c.if-out-n.false c.word_at-asked.ensures c.granted_credit.ensures (chunk_stored _ _ _ _ _ _ _ _ c.length_of-n.ensures c.if-n-eq-CHUNK_ERROR_BYTES.true (rw (← w.out-is) c.put_word.ensures) c.encode_chunk.ensures)
+])
 
 pub returns-else-n-eq-CHUNK_ERROR_BYTES : goal.returns-else-n-eq-CHUNK_ERROR_BYTES
 returns-else-n-eq-CHUNK_ERROR_BYTES c = clauses (elim c.if-n-eq-VERSION_ERROR_BYTES.branch [
-      then-n-eq-VERSION_ERROR_BYTES w ↦ reply_stored _ _ _ _ _ _ _ _ _ (positive _ c.if-limit-eq0.false) c.if-number-gt-LAST_NUMBER.false c.kind_for.ensures c.length_of-n.ensures c.if-out-n.false c.word_at-asked.ensures c.granted_credit.ensures (version_stored _ _ _ _ _ _ _ _ c.length_of-n.ensures w.if-n-eq-VERSION_ERROR_BYTES.true (w.out-is ∙ w.encode_version.ensures) c.put_word.ensures)
-    | else-n-eq-VERSION_ERROR_BYTES w ↦ absurd (no_length _ _ c.length_of-n.ensures c.if-n-eq0.false w.if-n-eq-VERSION_ERROR_BYTES.false c.if-n-eq-CHUNK_ERROR_BYTES.false)
-    ])
+  | then-n-eq-VERSION_ERROR_BYTES w ↦ reply_stored _ _ _ _ _ _ _ _ _ (positive _ c.if-limit-eq0.false) c.if-number-gt-LAST_NUMBER.false c.kind_for.ensures c.length_of-n.ensures c.if-out-n.false c.word_at-asked.ensures c.granted_credit.ensures (version_stored _ _ _ _ _ _ _ _ c.length_of-n.ensures w.if-n-eq-VERSION_ERROR_BYTES.true (w.out-is ∙ w.encode_version.ensures) c.put_word.ensures)
+  | else-n-eq-VERSION_ERROR_BYTES w ↦ absurd (no_length _ _ c.length_of-n.ensures c.if-n-eq0.false w.if-n-eq-VERSION_ERROR_BYTES.false c.if-n-eq-CHUNK_ERROR_BYTES.false)
+])

@@ -2,7 +2,6 @@
 use mathlib.Core.Path.{◌∙◌}
 use borrow.Author.Tests.{le-leb, eq-eqb, ne_eqb}
 use Rattle.error_reply.specs.Reply.{reply_kind_for}
-use borrow.Author.Rules.{rules}
 use Rattle.error_reply.proofs.kind_for.Goals as goal
 
 pub returns-then-word_at-eq-PROCEDURE_ERROR : goal.returns-then-word_at-eq-PROCEDURE_ERROR

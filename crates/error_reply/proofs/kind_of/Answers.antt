@@ -1,11 +1,8 @@
 -- `error_reply::kind_of` meets its contract.
-use mathlib.Core.Path.{◌≡◌, refl, ap, ◌∙◌}
-use Prim.Native.Nat.{◌<◌, ◌≤◌, ◌-◌}
+use mathlib.Core.Path.{refl, ap, ◌∙◌}
 use native.Mathlib.Omega.{arith}
-use mathlib.Core.Logic.{⊎_elim}
-use borrow.Author.Rules.{rules}
 use Rattle.error_reply.specs.Reply.{reply_kind_of}
-use Rattle.error_reply.proofs.ReplyTable.{listed, by_table}
+use Rattle.error_reply.proofs.ReplyTable.{by_table}
 use Rattle.error_reply.proofs.kind_of.Goals as goal
 use Rattle.error_reply.proofs.kind_of.Goals.{then-i-number, else-i-number}
 

@@ -1,11 +1,8 @@
 -- `error_reply::kind_of` meets its contract.
-use mathlib.Core.Path.{◌≡◌, refl, ap, ◌∙◌}
+use mathlib.Core.Path.{◌≡◌}
 use Prim.Native.Nat.{◌<◌, ◌≤◌, ◌-◌}
-use native.Mathlib.Omega.{arith}
-use mathlib.Core.Logic.{⊎_elim}
-use borrow.Author.Rules.{rules}
 use Rattle.error_reply.specs.Reply.{reply_kind_of}
-use Rattle.error_reply.proofs.ReplyTable.{listed, by_table}
+use Rattle.error_reply.proofs.ReplyTable.{listed}
 use Rattle.error_reply.proofs.kind_of.Given as goal
 
 -- The table is as it was; once its place is passed, the kind is the number's.

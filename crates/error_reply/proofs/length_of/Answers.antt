@@ -1,6 +1,5 @@
 -- `error_reply::length_of` meets its contract.
 use Rattle.error_reply.specs.Internal.Length.{reply_length}
-use borrow.Author.Rules.{rules}
 use Rattle.error_reply.proofs.length_of.Goals as goal
 
 pub returns-in-None : goal.returns-in-None

@@ -1,12 +1,9 @@
 -- `header::total_count` meets its contract.
-use mathlib.Core.Path.{◌≡◌, refl, ap}
-use Prim.Native.Nat.{◌+◌, ◌*◌, ◌≤◌, ◌-◌}
-use native.Mathlib.Omega.{arith}
-use lib.ListN.{take, get_or}
-use borrow.Author.Rules.{rules}
+use mathlib.Core.Path.{◌≡◌}
+use Prim.Native.Nat.{◌*◌, ◌≤◌, ◌-◌}
+use lib.ListN.{take}
 use Rattle.header.specs.Limits.{total}
 use Rattle.header.specs.Words.{counts_in}
-use Rattle.header.proofs.Limits.{total_next, take_most, counts_long, count_here}
 use Rattle.header.proofs.total_count.Given as goal
 
 abbrev pub invariant-loop-k : goal.invariant-loop-k

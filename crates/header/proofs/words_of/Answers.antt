@@ -1,6 +1,5 @@
 -- `header::words_of` meets its contract.
 use mathlib.Core.Path.{refl}
-use borrow.Author.Rules.{rules}
 use Rattle.wire.specs.Wire.{stored}
 use Rattle.header.proofs.Words.{full_of, words_made}
 use Rattle.header.proofs.words_of.Goals as goal

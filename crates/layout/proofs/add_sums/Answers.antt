@@ -1,6 +1,5 @@
 -- `layout::add_sums` meets its contract.
 use Rattle.layout.proofs.Summing.{with_zero, with_other}
-use borrow.Author.Rules.{rules}
 use Rattle.layout.proofs.add_sums.Goals as goal
 
 pub returns-then-x-eq0 : goal.returns-then-x-eq0

@@ -1,5 +1,4 @@
 -- `layout::base_length` meets its contract.
-use borrow.Author.Rules.{rules}
 use Rattle.layout.proofs.base_length.Goals as goal
 
 pub returns-in-Msg : goal.returns-in-Msg

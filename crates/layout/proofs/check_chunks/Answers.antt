@@ -2,14 +2,13 @@
 use Rattle.chunk_lists.specs.Words.{reads_in}
 use Rattle.chunk_lists.proofs.Words.{length_reads}
 use Rattle.layout.specs.Internal.Walks.{ended_length}
-use Rattle.layout.specs.Layout.{rounded_up, other_chunks}
-use Rattle.layout.proofs.ChunksStand.{Stood, stood_start, stood_next, stood_overlaps, stood_past, stood_all}
+use Rattle.layout.specs.Layout.{rounded_up}
+use Rattle.layout.proofs.ChunksStand.{stood_start, stood_next, stood_overlaps, stood_past, stood_all}
 use mathlib.Core.Path.{◌≡◌, sym}
-use Prim.Native.Nat.{◌+◌, ◌≤◌, ◌-◌}
+use Prim.Native.Nat.{◌+◌, ◌≤◌}
 use native.Mathlib.Omega.{arith}
 use borrow.Author.Rules.{rules}
-use lib.ListN.{take, drop}
-use Rattle.layout.proofs.ChunkWalk.{Along, along_start, here, behind_all}
+use Rattle.layout.proofs.ChunkWalk.{along_start, here, behind_all}
 use Rattle.layout.proofs.check_chunks.Goals as goal
 
 pub loop-i-init : goal.loop-i-init

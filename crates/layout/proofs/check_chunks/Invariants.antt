@@ -1,15 +1,10 @@
 -- `layout::check_chunks` meets its contract.
 use Rattle.chunk_lists.specs.Words.{reads_in}
-use Rattle.chunk_lists.proofs.Words.{length_reads}
-use Rattle.layout.specs.Internal.Walks.{ended_length}
-use Rattle.layout.specs.Layout.{rounded_up, other_chunks}
-use Rattle.layout.proofs.ChunksStand.{Stood, stood_start, stood_next, stood_overlaps, stood_past, stood_all}
-use mathlib.Core.Path.{◌≡◌, sym}
-use Prim.Native.Nat.{◌+◌, ◌≤◌, ◌-◌}
-use native.Mathlib.Omega.{arith}
-use borrow.Author.Rules.{rules}
+use Rattle.layout.specs.Layout.{other_chunks}
+use Rattle.layout.proofs.ChunksStand.{Stood}
+use Prim.Native.Nat.{◌≤◌, ◌-◌}
 use lib.ListN.{take, drop}
-use Rattle.layout.proofs.ChunkWalk.{Along, along_start, here, behind_all}
+use Rattle.layout.proofs.ChunkWalk.{Along}
 use Rattle.layout.proofs.check_chunks.Given as goal
 
 abbrev pub invariant-loop-i : goal.invariant-loop-i

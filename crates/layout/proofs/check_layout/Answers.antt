@@ -1,5 +1,4 @@
 -- `layout::check_layout` meets its contract.
-use borrow.Author.Rules.{rules}
 use Rattle.layout.proofs.check_layout.Goals as goal
 
 pub returns : goal.returns

@@ -1,8 +1,7 @@
 -- `layout::check_room` meets its contract.
 use mathlib.Core.Path.{sym, ◌∙◌}
 use native.Mathlib.Omega.{arith}
-use borrow.Author.Rules.{rules}
-use borrow.Author.Tests.{le-leb, lt-leb, eq-eqb, ne_eqb, not-true, not-false}
+use borrow.Author.Tests.{le-leb, lt-leb, eq-eqb, ne_eqb}
 use Rattle.layout.specs.Layout.{message_length, place_number}
 use Rattle.layout.specs.Internal.Walks.{layout_check}
 use Rattle.layout.proofs.ChunksStand.{stands_told, overlaps_told}

@@ -1,7 +1,6 @@
 -- `layout::ended_length` meets its contract.
 use mathlib.Core.Path.{sym, ◌∙◌}
 use Rattle.layout.proofs.ChunkWalk.{ended_none, ended_all}
-use borrow.Author.Rules.{rules}
 use Rattle.layout.proofs.ended_length.Goals as goal
 
 pub returns-then-w-wide : goal.returns-then-w-wide

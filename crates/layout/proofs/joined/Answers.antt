@@ -1,6 +1,5 @@
 -- `layout::joined` meets its contract.
 use Rattle.layout.proofs.ChunkWalk.{near_words, joined_zero, joined_same, joined_new}
-use borrow.Author.Rules.{rules}
 use Rattle.layout.proofs.joined.Goals as goal
 
 pub returns-then-position-eq0 : goal.returns-then-position-eq0

@@ -1,6 +1,5 @@
 -- `layout::sums_of` meets its contract.
 use mathlib.Core.Path.{◌≡◌, sym, ◌∙◌}
-use Prim.Native.Nat.{◌≤◌, ◌-◌}
 use native.Mathlib.Omega.{arith}
 use borrow.Author.Rules.{rules}
 use lib.ListN.{length, take, get_or}
@@ -8,7 +7,7 @@ use lib.Seq.{length-take-le, get_or-take}
 use Rattle.wire.specs.Wire.{zero_read_segment}
 use Rattle.chunk_lists.specs.Words.{reads_in}
 use Rattle.chunk_lists.proofs.Words.{length_reads}
-use Rattle.layout.proofs.Summing.{Summed, summed_start, summed_ready, summed_next, summed_all}
+use Rattle.layout.proofs.Summing.{summed_start, summed_ready, summed_next, summed_all}
 use Rattle.layout.proofs.sums_of.Goals as goal
 
 pub loop-i-init : goal.loop-i-init

@@ -1,26 +1,16 @@
 -- `placing::place` meets its contract.
-use mathlib.Core.Path.{◌≡◌, refl, sym, ap, ◌∙◌}
-use mathlib.Core.List.{List, ◌∷◌}
-use Prim.Native.Nat.{ℕ, ◌+◌, ◌-◌, ◌≤◌, ◌<◌, min}
-use native.Mathlib.Nat.{add-zero, sub-zero}
-use native.Mathlib.Omega.{arith}
-use borrow.Author.Rules.{rules}
-use lib.Seq.{take-length, length-take-le}
+use mathlib.Core.Path.{◌≡◌}
+use mathlib.Core.List.{List}
+use Prim.Native.Nat.{ℕ, ◌+◌, ◌-◌, ◌≤◌}
 use lib.ListN.{length, take, drop}
 use Rattle.wire.specs.declared.ReadSegment.{ReadSegment}
 use Rattle.chunk_lists.specs.Words.{reads_in}
-use Rattle.chunk_lists.proofs.Words.{length_reads}
 use Rattle.layout.specs.Places.{scatter}
-use Rattle.layout.specs.Layout.{other_chunks}
 use Rattle.layout.specs.Internal.Walks.{read_length}
-use Rattle.layout.proofs.Scatter.{length_scatter, scatter_none}
-use Rattle.layout.proofs.ChunkWalk.{segment_here}
-use Rattle.placing.specs.Segments.{dealt, position_length}
-use Rattle.placing.specs.Goes.{PulledByte, of_segment, pulled_bytes, goes}
-use Rattle.placing.specs.Internal.Sources.{read_places, part_places}
-use Rattle.placing.proofs.Segments.{read_length_lem}
-use Rattle.placing.proofs.SegmentSteps.{SegmentAt, segment_at_lem, PartAt, part_at, part_placed, part_counted, Hand, hand_start, hand_before, hand_next, read_next, read_most, still_there, start_sum, length_within, part_length, finished, less_sum, less_rest}
-use Rattle.placing.proofs.Bounds.{most_goes}
+use Rattle.placing.specs.Segments.{dealt}
+use Rattle.placing.specs.Goes.{PulledByte, pulled_bytes, goes}
+use Rattle.placing.specs.Internal.Sources.{read_places}
+use Rattle.placing.proofs.SegmentSteps.{Hand}
 use Rattle.placing.proofs.place.Given as goal
 
 -- The read list, and its bytes.

@@ -1,21 +1,18 @@
 -- `placing::place_base` meets its contract.
 use mathlib.Core.Path.{◌≡◌, refl, sym, ap, ◌∙◌}
-use mathlib.Core.List.{List}
-use Prim.Native.Nat.{ℕ, ◌+◌, ◌-◌, ◌≤◌, ◌<◌, min}
+use Prim.Native.Nat.{◌+◌, ◌-◌, ◌≤◌, ◌<◌, min}
 use native.Mathlib.Nat.{add-zero, add_assoc, sub-zero}
 use native.Mathlib.Omega.{arith}
 use borrow.Author.Rules.{rules}
 use lib.Seq.{take-length}
 use lib.ListN.{length, take, drop, length-drop}
-use Rattle.wire.specs.declared.ReadSegment.{ReadSegment}
 use Rattle.wire.proofs.Fields.{part_from}
-use Rattle.chunk_lists.specs.Words.{reads_in}
 use Rattle.chunk_lists.proofs.Words.{length_reads}
 use Rattle.layout.specs.Places.{scatter}
 use Rattle.layout.specs.Internal.Walks.{joined_run, ended_length}
-use Rattle.layout.specs.Layout.{run, other_chunks, rounded_up, base_places}
+use Rattle.layout.specs.Layout.{run, other_chunks, rounded_up}
 use Rattle.layout.proofs.Scatter.{length_scatter, scatter_none}
-use Rattle.layout.proofs.ChunkWalk.{Along, along_start, Here, Behind}
+use Rattle.layout.proofs.ChunkWalk.{along_start, Here, Behind}
 use Rattle.layout.proofs.RunWalk.{GapRun, GapSought, gap_start, gap_last}
 use Rattle.placing.specs.Goes.{of_segment, goes}
 use Rattle.placing.proofs.EmptySegments.{non_empty, PassedOver, passed_over_lem, some_here, same_rest, empty_here, none_to_come}

@@ -1,6 +1,5 @@
 -- `placing::place_gap` meets its contract.
 use native.Mathlib.Nat.{sub-zero}
-use borrow.Author.Rules.{rules}
 use Rattle.placing.proofs.Sources.{gap_none}
 use Rattle.placing.proofs.place_gap.Goals as goal
 

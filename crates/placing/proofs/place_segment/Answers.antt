@@ -1,7 +1,6 @@
 -- `placing::place_segment` meets its contract.
 use mathlib.Core.Path.{sym, ◌∙◌}
 use native.Mathlib.Omega.{arith}
-use borrow.Author.Rules.{rules}
 use Rattle.placing.proofs.Segments.{part_based, part_copied}
 use Rattle.placing.proofs.place_segment.Goals as goal
 

@@ -8,7 +8,6 @@ use lib.ListN.{drop, length-drop}
 use native.Mathlib.Omega.{arith}
 use mathlib.Core.Path.{sym, ap, ◌∙◌}
 use Rattle.reader.proofs.FrameChecks.{error_uncoded, error_cut, error_version, error_chunk, error_other}
-use borrow.Author.Rules.{rules}
 use Rattle.reader.proofs.check_error.Goals as goal
 
 pub returns-in_default : goal.returns-in_default

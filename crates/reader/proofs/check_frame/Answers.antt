@@ -5,7 +5,6 @@ use Rattle.reader.specs.Internal.Shape.{frame_check}
 use Rattle.reader.specs.Frame.{read_frame}
 use mathlib.Core.Path.{◌≡◌}
 use borrow.Author.Tests.{le-leb, lt-leb, ne_eqb}
-use borrow.Author.Rules.{rules}
 use Rattle.reader.proofs.check_frame.Goals as goal
 
 pub returns-then-size-lt-FIXED_BYTES : goal.returns-then-size-lt-FIXED_BYTES

@@ -6,7 +6,6 @@ use lib.ListN.{drop}
 use native.Mathlib.Omega.{arith}
 use mathlib.Core.Path.{ap, ◌∙◌}
 use Rattle.reader.proofs.FrameChecks.{reads_found, reads_refused, writes_found, writes_refused, no_reply, absent_reply, present_reply, parts_reads, parts_writes, parts_reply, parts_done}
-use borrow.Author.Rules.{rules}
 use Rattle.reader.proofs.check_lists.Goals as goal
 
 pub returns-in_default : goal.returns-in_default

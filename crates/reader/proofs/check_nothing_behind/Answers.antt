@@ -1,6 +1,5 @@
 -- `reader::check_nothing_behind` meets its contract.
 use borrow.Author.Tests.{eq-eqb, ne_eqb}
-use borrow.Author.Rules.{rules}
 use Rattle.reader.proofs.check_nothing_behind.Goals as goal
 
 pub returns-then-shape-size : goal.returns-then-shape-size

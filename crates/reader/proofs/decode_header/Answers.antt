@@ -3,7 +3,7 @@ use mathlib.Core.Path.{sym, ◌∙◌}
 use native.Mathlib.Omega.{arith}
 use lib.ListN.{length-drop}
 use Rattle.wire.proofs.Fields.{part_from}
-use Rattle.reader.proofs.FrameParts.{Found, Bounds, bounds, found, unfound, chunks_fit}
+use Rattle.reader.proofs.FrameParts.{Bounds, bounds, found, unfound, chunks_fit}
 use Rattle.reader.proofs.DecodedWords.{words_read}
 use borrow.Author.Rules.{rules}
 use Rattle.reader.proofs.decode_header.Goals as goal

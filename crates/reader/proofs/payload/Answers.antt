@@ -2,7 +2,6 @@
 use Rattle.wire.proofs.Fields.{part_from}
 use mathlib.Core.Path.{sym, ◌∙◌}
 use Rattle.reader.proofs.FrameParts.{found, unfound, payload_part}
-use borrow.Author.Rules.{rules}
 use Rattle.reader.proofs.payload.Goals as goal
 
 pub returns-in_default : goal.returns-in_default

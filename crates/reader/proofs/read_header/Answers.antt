@@ -1,6 +1,5 @@
 -- `reader::read_header` meets its contract.
 use Rattle.reader.proofs.DecodedWords.{answer_held}
-use borrow.Author.Rules.{rules}
 use Rattle.reader.proofs.read_header.Goals as goal
 
 pub returns : goal.returns

@@ -1,12 +1,11 @@
 -- What the functions under the reader answer, case by case, from the definitions.
-use Rattle.std.specs.Prelude.{ℕ, ◌-◌, Bool, true, false, cond, List, [], length, eqb}
+use Rattle.std.specs.Prelude.{ℕ, ◌-◌, Bool, true, false, cond, List, length, eqb}
 use Rattle.std.proofs.Math.Option.{Option, none, some}
 use Rattle.wire.specs.declared.Segment.{Segment}
 use Rattle.chunk_lists.specs.Parsed.{Parsed, refused, done}
 use Rattle.header.specs.Content.{Content}
 use Rattle.chunk_lists.specs.declared.ListCheck.{ListCheck}
 use Rattle.chunk_lists.specs.declared.ListCheck.TheVariants as list
-use Rattle.header.specs.declared.Kind.{Kind}
 use Rattle.header.specs.declared.Kind.TheVariants.{Error}
 use Rattle.header.specs.declared.ErrorKind.{ErrorKind}
 use Rattle.reader.specs.declared.Shape.{Shape}

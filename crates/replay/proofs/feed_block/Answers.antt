@@ -1,8 +1,6 @@
 -- `replay::feed_block` keeps to what it was lent, and ends.
-use mathlib.Core.Path.{◌≡◌}
-use Prim.Native.Nat.{◌-◌, ◌^◌, ◌≤◌, ◌<◌}
 use native.Mathlib.Omega.{arith}
-use lib.ListN.{length, length-take}
+use lib.ListN.{length-take}
 use Rattle.trace.proofs.Blocks.{rest_some, rest_length, feeds_some}
 use borrow.Author.Rules.{rules}
 use Rattle.replay.proofs.feed_block.Goals as goal

@@ -1,10 +1,7 @@
 -- `replay::feed_block` keeps to what it was lent, and ends.
 use mathlib.Core.Path.{◌≡◌}
 use Prim.Native.Nat.{◌-◌, ◌^◌, ◌≤◌, ◌<◌}
-use native.Mathlib.Omega.{arith}
-use lib.ListN.{length, length-take}
-use Rattle.trace.proofs.Blocks.{rest_some, rest_length, feeds_some}
-use borrow.Author.Rules.{rules}
+use lib.ListN.{length}
 use Rattle.replay.proofs.feed_block.Given as goal
 
 abbrev pub invariant-loop-i : goal.invariant-loop-i

@@ -1,9 +1,7 @@
 -- `replay::report_input` keeps to what it was lent, and ends.
-use mathlib.Core.Path.{◌≡◌, sym, ap, ◌∙◌}
-use Prim.Native.Nat.{◌≤◌}
+use mathlib.Core.Path.{sym, ap, ◌∙◌}
 use lib.ListN.{length}
 use Rattle.trace_text.proofs.Texts.{heading_length}
-use borrow.Author.Rules.{rules}
 use Rattle.replay.proofs.report_input.Goals as goal
 
 pub slice_bounds-write_part-end : goal.slice_bounds-write_part-end

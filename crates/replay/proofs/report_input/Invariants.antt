@@ -1,9 +1,7 @@
 -- `replay::report_input` keeps to what it was lent, and ends.
-use mathlib.Core.Path.{◌≡◌, sym, ap, ◌∙◌}
+use mathlib.Core.Path.{◌≡◌}
 use Prim.Native.Nat.{◌≤◌}
 use lib.ListN.{length}
-use Rattle.trace_text.proofs.Texts.{heading_length}
-use borrow.Author.Rules.{rules}
 use Rattle.replay.proofs.report_input.Given as goal
 
 abbrev pub invariant-loop-turns : goal.invariant-loop-turns

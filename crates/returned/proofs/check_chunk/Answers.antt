@@ -1,15 +1,9 @@
 -- `returned::check_chunk` meets its contract.
 use mathlib.Core.Path.{sym, ◌∙◌}
-use mathlib.Core.List.{List}
-use Prim.Native.Nat.{ℕ, ◌*◌, ◌≤◌, ◌-◌}
 use native.Mathlib.Omega.{arith}
-use lib.ListN.{take, drop}
 use borrow.Author.Rules.{rules}
 use borrow.Author.Tests.{not-true, not-false}
-use Rattle.wire.specs.declared.Segment.{Segment}
-use Rattle.chunk_lists.specs.Words.{segments_in}
-use Rattle.returned.proofs.Chunks.{Comparing, comparing_starts, comparing_next, comparing_fault, comparing_ends, chunk_next, chunk_end}
-use Rattle.returned.proofs.check_chunk.Invariants.{segments}
+use Rattle.returned.proofs.Chunks.{comparing_starts, comparing_next, comparing_fault, comparing_ends, chunk_next, chunk_end}
 use Rattle.returned.proofs.check_chunk.Goals as goal
 
 pub loop-j-init : goal.loop-j-init

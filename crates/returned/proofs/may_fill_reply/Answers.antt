@@ -1,5 +1,4 @@
 -- `returned::may_fill_reply` meets its contract.
-use borrow.Author.Rules.{rules}
 use Rattle.returned.proofs.may_fill_reply.Goals as goal
 
 pub returns-in-Msg : goal.returns-in-Msg

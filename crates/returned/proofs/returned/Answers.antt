@@ -1,7 +1,6 @@
 -- `returned::returned` meets its contract.
 use mathlib.Core.Path.{◌≡◌, ap, ◌∙◌}
 use mathlib.Core.Option.{some}
-use borrow.Author.Rules.{rules}
 use Rattle.header.specs.Words.{header_in}
 use Rattle.header.proofs.Words.{full_of, header_back}
 use Rattle.returned.specs.Returned.{returned_answer}

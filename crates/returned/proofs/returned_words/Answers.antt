@@ -1,6 +1,5 @@
 -- `returned::returned_words` meets its contract.
 use mathlib.Core.Path.{refl, sym, ◌∙◌}
-use borrow.Author.Rules.{rules}
 use Rattle.header.specs.Words.{header_in}
 use Rattle.header.proofs.Words.{header_known, kind_unknown, flag_unknown}
 use Rattle.returned.proofs.Lent.{reply_unknown}

@@ -1,8 +1,6 @@
 -- `setup::agree` meets its contract.
 use mathlib.Core.Path.{◌∙◌}
-use borrow.Author.Tests.{not-true, not-false}
 use Rattle.setup.specs.Setup.{agreement}
-use borrow.Author.Rules.{rules}
 use Rattle.setup.proofs.agree.Goals as goal
 
 pub returns-then-not-setup_in_rule : goal.returns-then-not-setup_in_rule

@@ -5,7 +5,6 @@ use lib.ListN.{length-set}
 use mathlib.Core.Path.{refl}
 use native.Mathlib.Omega.{arith}
 use Rattle.setup.specs.Setup.{setup_bytes}
-use borrow.Author.Rules.{rules}
 use Rattle.setup.proofs.encode_setup.Goals as goal
 
 pub to_byte-send_byte-requires : goal.to_byte-send_byte-requires

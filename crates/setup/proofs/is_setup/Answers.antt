@@ -1,7 +1,6 @@
 -- `setup::is_setup` meets its contract.
 use borrow.Author.Tests.{le-leb, lt-leb, eq-eqb, ne_eqb}
 use Rattle.setup.specs.Setup.{is_setup}
-use borrow.Author.Rules.{rules}
 use Rattle.setup.proofs.is_setup.Goals as goal
 
 pub returns-then-s-lt-SETUP_BYTES : goal.returns-then-s-lt-SETUP_BYTES

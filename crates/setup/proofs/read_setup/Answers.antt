@@ -2,9 +2,7 @@
 use Rattle.setup.proofs.SetupBytes.{setup_there}
 use mathlib.Core.Path.{sym, ◌∙◌}
 use native.Mathlib.Omega.{arith}
-use borrow.Author.Tests.{not-true, not-false}
 use Rattle.setup.specs.Setup.{read_setup}
-use borrow.Author.Rules.{rules}
 use Rattle.setup.proofs.read_setup.Goals as goal
 
 pub returns-then-not-is_setup : goal.returns-then-not-is_setup

@@ -1,7 +1,5 @@
 -- `setup::setup_in_rule` meets its contract.
-use borrow.Author.Tests.{not-true, not-false}
 use Rattle.setup.specs.Setup.{setup_in_rule}
-use borrow.Author.Rules.{rules}
 use Rattle.setup.proofs.setup_in_rule.Goals as goal
 
 pub returns-then-not-in_rule : goal.returns-then-not-in_rule

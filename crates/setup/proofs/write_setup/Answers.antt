@@ -2,9 +2,8 @@
 use Rattle.wire.proofs.Fields.{stored_front}
 use Rattle.wire.specs.Wire.{word_bytes}
 use mathlib.Core.Path.{refl, sym, ◌∙◌}
-use borrow.Author.Tests.{le-leb, lt-leb, not-true, not-false}
+use borrow.Author.Tests.{le-leb, lt-leb}
 use Rattle.setup.specs.Setup.{write_setup_answer, write_setup_buffer, write_setup_number, setup_bytes}
-use borrow.Author.Rules.{rules}
 use Rattle.setup.proofs.write_setup.Goals as goal
 
 -- The clauses, from all of them at once.

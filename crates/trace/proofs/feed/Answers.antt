@@ -1,7 +1,6 @@
 -- `trace::feed` meets its contract.
-use Rattle.std.proofs.Common.{◌-◌, length, arith, rules}
-use Rattle.trace_line.specs.Internal.Taking.{Values}
-use Rattle.trace.proofs.Blocks.{Running, running_starts, running_more, ends_full, ends_whole, rest_some, rest_length}
+use Rattle.std.proofs.Common.{arith, rules}
+use Rattle.trace.proofs.Blocks.{running_starts, running_more, ends_full, ends_whole, rest_some, rest_length}
 use Rattle.trace.proofs.feed.Goals as goal
 
 -- The clauses, from all of them at once.

@@ -1,7 +1,7 @@
 -- `trace::feed` meets its contract.
-use Rattle.std.proofs.Common.{◌-◌, length, arith, rules}
+use Rattle.std.proofs.Common.{◌-◌, length}
 use Rattle.trace_line.specs.Internal.Taking.{Values}
-use Rattle.trace.proofs.Blocks.{Running, running_starts, running_more, ends_full, ends_whole, rest_some, rest_length}
+use Rattle.trace.proofs.Blocks.{Running}
 use Rattle.trace.proofs.feed.Given as goal
 
 abbrev pub invariant-loop-i : goal.invariant-loop-i

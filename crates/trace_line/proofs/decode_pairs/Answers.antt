@@ -1,17 +1,11 @@
 -- `trace_line::decode_pairs` meets its contract.
-use mathlib.Core.Path.{◌≡◌, refl}
-use mathlib.Core.Bool.{true}
-use mathlib.Core.List.{◌++◌}
-use Prim.Native.Nat.{◌≤◌, ◌-◌, ◌+◌, ◌*◌, ◌/◌, ◌%◌, min}
+use mathlib.Core.Path.{refl}
+use Prim.Native.Nat.{◌+◌, ◌*◌}
 use native.Mathlib.Omega.{arith}
-use lib.ListN.{length, take, drop, get_or, length-set}
+use lib.ListN.{get_or, length-set}
 use borrow.Author.Rules.{rules}
 use Rattle.trace_line.specs.Line.{all_digits, bytes_of}
 use Rattle.trace_line.proofs.Digits.{Four, four_digits, pairs_digits, pairs_more}
-use Rattle.trace_line.proofs.decode_pairs.Reads as reads
-use Rattle.trace_line.proofs.decode_pairs.Lts as lts
-use Rattle.trace_line.proofs.digit.Reads as digit
-use Rattle.wire.proofs.smaller.Reads as smaller
 use Rattle.trace_line.proofs.decode_pairs.Goals as goal
 
 pub loop-k-init : goal.loop-k-init

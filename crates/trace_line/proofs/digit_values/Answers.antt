@@ -1,8 +1,7 @@
 -- `trace_line::digit_values` meets its contract.
 use mathlib.Core.Path.{◌≡◌}
-use Prim.Native.Nat.{◌-◌, ◌≤◌}
 use native.Mathlib.Omega.{arith}
-use lib.ListN.{length, length-set}
+use lib.ListN.{length-set}
 use borrow.Author.Rules.{rules}
 use Rattle.trace_line.specs.Internal.Taking.{Values}
 use Rattle.trace_line.proofs.Digits.{values_next}

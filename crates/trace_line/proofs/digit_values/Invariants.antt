@@ -1,11 +1,8 @@
 -- `trace_line::digit_values` meets its contract.
 use mathlib.Core.Path.{◌≡◌}
 use Prim.Native.Nat.{◌-◌, ◌≤◌}
-use native.Mathlib.Omega.{arith}
-use lib.ListN.{length, length-set}
-use borrow.Author.Rules.{rules}
+use lib.ListN.{length}
 use Rattle.trace_line.specs.Internal.Taking.{Values}
-use Rattle.trace_line.proofs.Digits.{values_next}
 use Rattle.trace_line.proofs.digit_values.Given as goal
 
 abbrev pub invariant-loop-c : goal.invariant-loop-c

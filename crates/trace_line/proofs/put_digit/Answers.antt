@@ -2,7 +2,6 @@
 use mathlib.Core.Path.{sym}
 use Prim.Native.Nat.{◌/◌}
 use native.Mathlib.Omega.{arith}
-use borrow.Author.Rules.{rules}
 use Rattle.trace_line.proofs.Digits.{first_half, second_half}
 use Rattle.trace_line.proofs.put_digit.Goals as goal
 

@@ -1,9 +1,6 @@
 -- `trace_line::take_bytes` meets its contract.
-use mathlib.Core.Path.{◌≡◌, refl}
-use Prim.Native.Nat.{◌-◌}
-use lib.ListN.{length}
+use mathlib.Core.Path.{refl}
 use borrow.Author.Rules.{rules}
-use Rattle.trace_line.specs.Internal.Taking.{Takes}
 use Rattle.trace_line.proofs.Parts.{takes_none, takes_next, takes_all, line_stop, line_none}
 use Rattle.trace_line.proofs.take_bytes.Goals as goal
 

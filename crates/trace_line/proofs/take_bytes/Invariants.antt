@@ -1,10 +1,8 @@
 -- `trace_line::take_bytes` meets its contract.
-use mathlib.Core.Path.{◌≡◌, refl}
+use mathlib.Core.Path.{◌≡◌}
 use Prim.Native.Nat.{◌-◌}
 use lib.ListN.{length}
-use borrow.Author.Rules.{rules}
 use Rattle.trace_line.specs.Internal.Taking.{Takes}
-use Rattle.trace_line.proofs.Parts.{takes_none, takes_next, takes_all, line_stop, line_none}
 use Rattle.trace_line.proofs.take_bytes.Given as goal
 
 abbrev pub invariant-loop-i : goal.invariant-loop-i

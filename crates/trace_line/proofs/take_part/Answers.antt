@@ -4,11 +4,6 @@ use native.Mathlib.Omega.{arith}
 use lib.ListN.{length}
 use borrow.Author.Rules.{rules}
 use Rattle.trace_line.proofs.Parts.{three_most, takes_three}
-use Rattle.trace_line.proofs.take_part.Reads as reads
-use Rattle.trace_line.proofs.take_part.Lts as lts
-use Rattle.trace_line.proofs.take_half.Reads as take_half
-use Rattle.trace_line.proofs.take_pairs.Reads as take-pairs
-use Rattle.trace_line.proofs.take_bytes.Reads as take-bytes
 use Rattle.trace_line.proofs.take_part.Goals as goal
 
 -- The clauses, from all of them at once.

@@ -1,7 +1,6 @@
 -- `trace_text::judge` meets its contract.
 use mathlib.Core.Path.{sym, ◌∙◌}
 use native.Mathlib.Omega.{arith}
-use borrow.Author.Rules.{rules}
 use Rattle.trace_text.proofs.Verdicts.{judged_found, judged_refused}
 use Rattle.trace_text.proofs.judge.Goals as goal
 

@@ -1,8 +1,7 @@
 -- `trace_text::places` meets its contract.
-use Prim.Native.Nat.{◌-◌}
 use native.Mathlib.Omega.{arith}
 use borrow.Author.Rules.{rules}
-use Rattle.trace_text.proofs.Decimals.{Counting, counting_starts, counting_fits, counting_next, counted, counted_20}
+use Rattle.trace_text.proofs.Decimals.{counting_starts, counting_fits, counting_next, counted, counted_20}
 use Rattle.trace_text.proofs.places.Goals as goal
 
 pub loop-k-init : goal.loop-k-init

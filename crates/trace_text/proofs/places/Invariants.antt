@@ -1,8 +1,6 @@
 -- `trace_text::places` meets its contract.
 use Prim.Native.Nat.{◌-◌}
-use native.Mathlib.Omega.{arith}
-use borrow.Author.Rules.{rules}
-use Rattle.trace_text.proofs.Decimals.{Counting, counting_starts, counting_fits, counting_next, counted, counted_20}
+use Rattle.trace_text.proofs.Decimals.{Counting}
 use Rattle.trace_text.proofs.places.Given as goal
 
 abbrev pub invariant-loop-k : goal.invariant-loop-k

@@ -1,7 +1,7 @@
 -- `trace_text::put_decimal` meets its contract.
 use native.Mathlib.Omega.{arith}
 use borrow.Author.Rules.{rules}
-use Rattle.trace_text.proofs.Decimals.{Writing, writing_starts, writing_room, writing_some, writing_next, writing_ends}
+use Rattle.trace_text.proofs.Decimals.{writing_starts, writing_room, writing_some, writing_next, writing_ends}
 use Rattle.trace_text.proofs.put_decimal.Goals as goal
 
 pub overflow_add-end : goal.overflow_add-end

@@ -1,7 +1,5 @@
 -- `trace_text::put_decimal` meets its contract.
-use native.Mathlib.Omega.{arith}
-use borrow.Author.Rules.{rules}
-use Rattle.trace_text.proofs.Decimals.{Writing, writing_starts, writing_room, writing_some, writing_next, writing_ends}
+use Rattle.trace_text.proofs.Decimals.{Writing}
 use Rattle.trace_text.proofs.put_decimal.Given as goal
 
 abbrev pub invariant-loop-m : goal.invariant-loop-m

@@ -1,5 +1,4 @@
 -- `trace_text::put_heading` meets its contract.
-use borrow.Author.Rules.{rules}
 use Rattle.trace_text.specs.Text.{ascii, heading}
 use Rattle.trace_text.proofs.put_heading.Goals as goal
 

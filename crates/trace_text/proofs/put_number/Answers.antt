@@ -1,6 +1,5 @@
 -- `trace_text::put_number` meets its contract.
 use lib.ListN.{length-append}
-use borrow.Author.Rules.{rules}
 use Rattle.trace_text.proofs.Texts.{behind}
 use Rattle.trace_text.proofs.put_number.Goals as goal
 

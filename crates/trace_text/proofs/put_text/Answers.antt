@@ -1,7 +1,6 @@
 -- `trace_text::put_text` meets its contract.
-use mathlib.Core.Path.{◌≡◌, refl}
-use Prim.Native.Nat.{◌≤◌, ◌-◌}
-use lib.ListN.{length, take, length-set}
+use mathlib.Core.Path.{refl}
+use lib.ListN.{length-set}
 use borrow.Author.Rules.{rules}
 use Rattle.wire.specs.Wire.{stored}
 use Rattle.trace_text.proofs.Texts.{text_more, text_done}

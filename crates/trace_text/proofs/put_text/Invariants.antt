@@ -1,10 +1,8 @@
 -- `trace_text::put_text` meets its contract.
-use mathlib.Core.Path.{◌≡◌, refl}
+use mathlib.Core.Path.{◌≡◌}
 use Prim.Native.Nat.{◌≤◌, ◌-◌}
-use lib.ListN.{length, take, length-set}
-use borrow.Author.Rules.{rules}
+use lib.ListN.{length, take}
 use Rattle.wire.specs.Wire.{stored}
-use Rattle.trace_text.proofs.Texts.{text_more, text_done}
 use Rattle.trace_text.proofs.put_text.Given as goal
 
 abbrev pub invariant-loop-i : goal.invariant-loop-i

@@ -1,5 +1,4 @@
 -- `trace_text::put_too_long` meets its contract.
-use borrow.Author.Rules.{rules}
 use Rattle.trace_text.specs.Text.{ascii, too_long}
 use Rattle.trace_text.proofs.put_too_long.Goals as goal
 

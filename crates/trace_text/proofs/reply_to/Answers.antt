@@ -1,5 +1,4 @@
 -- `trace_text::reply_to` meets its contract.
-use borrow.Author.Rules.{rules}
 use borrow.Author.Tests.{lt-leb}
 use Rattle.error_reply.specs.Reply.{reply_kind_for}
 use Rattle.trace_text.proofs.reply_to.Goals as goal

@@ -1,7 +1,6 @@
 -- `wire::first_word` meets its contract.
 use borrow.Author.Tests.{le-leb, lt-leb}
 use Rattle.wire.specs.Wire.{word_of}
-use borrow.Author.Rules.{rules}
 use Rattle.wire.proofs.first_word.Goals as goal
 
 pub returns-then-s-lt-WORD_BYTES : goal.returns-then-s-lt-WORD_BYTES

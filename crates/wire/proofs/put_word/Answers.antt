@@ -4,7 +4,6 @@ use Prim.Native.Nat.{◌+◌, suc}
 use Rattle.wire.specs.Wire.{word_bytes, stored}
 use lib.ListN.{length-set}
 use native.Mathlib.Omega.{arith}
-use borrow.Author.Rules.{rules}
 use Rattle.wire.proofs.put_word.Goals as goal
 
 pub bounds-out-k-2 : goal.bounds-out-k-2

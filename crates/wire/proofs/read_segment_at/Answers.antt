@@ -1,6 +1,5 @@
 -- `wire::read_segment_at` meets its contract.
 use Rattle.wire.specs.Wire.{read_segment_at}
-use borrow.Author.Rules.{rules}
 use Rattle.wire.proofs.read_segment_at.Goals as goal
 
 pub returns : goal.returns

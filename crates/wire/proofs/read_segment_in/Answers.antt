@@ -1,7 +1,6 @@
 -- `wire::read_segment_in` meets its contract.
 use Rattle.wire.specs.Words.{read_segment_in}
 use lib.Seq.{get_or-drop, drop-drop}
-use borrow.Author.Rules.{rules}
 use Rattle.wire.proofs.read_segment_in.Goals as goal
 
 pub returns : goal.returns

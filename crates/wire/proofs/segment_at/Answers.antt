@@ -1,6 +1,5 @@
 -- `wire::segment_at` meets its contract.
 use Rattle.wire.specs.Wire.{segment_at}
-use borrow.Author.Rules.{rules}
 use Rattle.wire.proofs.segment_at.Goals as goal
 
 pub returns : goal.returns

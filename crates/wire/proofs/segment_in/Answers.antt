@@ -1,7 +1,6 @@
 -- `wire::segment_in` meets its contract.
 use Rattle.wire.specs.Words.{segment_in}
 use lib.Seq.{get_or-drop}
-use borrow.Author.Rules.{rules}
 use Rattle.wire.proofs.segment_in.Goals as goal
 
 pub returns : goal.returns

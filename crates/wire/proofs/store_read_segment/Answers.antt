@@ -7,7 +7,6 @@ use lib.ListN.{length, length-set}
 use lib.Seq.{length-sets}
 use Rattle.wire.specs.Wire.{stored}
 use Rattle.wire.specs.Words.{read_segment_words}
-use borrow.Author.Rules.{rules}
 use Rattle.wire.proofs.store_read_segment.Goals as goal
 
 pub bounds-words-k-2 : goal.bounds-words-k-2

@@ -6,7 +6,6 @@ use native.Mathlib.Omega.{arith}
 use lib.ListN.{length-set}
 use Rattle.wire.specs.Wire.{stored}
 use Rattle.wire.specs.Words.{segment_words}
-use borrow.Author.Rules.{rules}
 use Rattle.wire.proofs.store_segment.Goals as goal
 
 pub bounds-words-k-2 : goal.bounds-words-k-2

@@ -1,6 +1,5 @@
 -- `wire::word_at` meets its contract.
 use Rattle.wire.specs.Wire.{word_at}
-use borrow.Author.Rules.{rules}
 use Rattle.wire.proofs.word_at.Goals as goal
 
 pub returns : goal.returns

@@ -1,6 +1,5 @@
 -- `writer::bare_if_error` meets its contract.
 use borrow.Author.Tests.{eq-eqb, ne_eqb}
-use borrow.Author.Rules.{rules}
 use Rattle.writer.proofs.bare_if_error.Goals as goal
 
 pub returns-then-reads-ne0 : goal.returns-then-reads-ne0

@@ -1,11 +1,8 @@
 -- `writer::check_entries` meets its contract.
-use mathlib.Core.Path.{◌≡◌, refl, sym, ◌∙◌}
-use Prim.Native.Nat.{◌≤◌, ◌-◌}
-use lib.ListN.{take, drop}
+use mathlib.Core.Path.{refl, sym, ◌∙◌}
 use borrow.Author.Rules.{rules}
 use borrow.Author.Tests.{eq-eqb, ne_eqb}
 use native.Mathlib.Omega.{arith}
-use Rattle.chunk_lists.specs.Words.{reads_in}
 use Rattle.chunk_lists.proofs.Words.{next_in, none_in}
 use Rattle.writer.specs.Write.{entries_number}
 use Rattle.writer.proofs.check_entries.Goals as goal

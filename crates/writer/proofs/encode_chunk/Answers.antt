@@ -3,7 +3,6 @@ use mathlib.Core.Path.{◌≡◌, refl}
 use native.Mathlib.Omega.{arith}
 use lib.ListN.{length, take, drop, length-drop}
 use lib.Seq.{length-take-le}
-use borrow.Author.Rules.{rules}
 use Rattle.wire.specs.Wire.{word_bytes}
 use Rattle.wire.proofs.Fields.{then}
 use Rattle.chunk_lists.specs.Words.{segments_in}

@@ -2,7 +2,6 @@
 use mathlib.Core.Path.{refl}
 use native.Mathlib.Omega.{arith}
 use lib.Seq.{drop-drop, get_or-drop}
-use borrow.Author.Rules.{rules}
 use Rattle.wire.proofs.Fields.{then}
 use Rattle.wire.specs.Wire.{word_bytes, read_segment_bytes}
 use Rattle.wire.specs.Words.{read_segment_in}

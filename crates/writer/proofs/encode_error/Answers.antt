@@ -3,7 +3,6 @@ use mathlib.Core.Path.{refl}
 use Prim.Native.Nat.{◌≤◌}
 use native.Mathlib.Omega.{arith}
 use lib.ListN.{length}
-use borrow.Author.Rules.{rules}
 use Rattle.wire.specs.Wire.{word_bytes}
 use Rattle.wire.proofs.Fields.{then}
 use Rattle.header.specs.Bytes.{error_bytes}

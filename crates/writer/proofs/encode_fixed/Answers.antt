@@ -1,6 +1,5 @@
 -- `writer::encode_fixed` meets its contract.
 use mathlib.Core.Path.{refl}
-use borrow.Author.Rules.{rules}
 use Rattle.wire.specs.Wire.{word_bytes}
 use Rattle.header.specs.Bytes.{fixed_bytes}
 use Rattle.writer.proofs.HeaderWriting.{interleaved}

@@ -1,8 +1,6 @@
 -- `writer::encode_read_list` meets its contract.
 use mathlib.Core.Path.{◌≡◌, refl}
-use Prim.Native.Nat.{◌≤◌, ◌-◌}
 use native.Mathlib.Omega.{arith}
-use lib.ListN.{length, take}
 use borrow.Author.Rules.{rules}
 use Rattle.wire.specs.Wire.{stored, joined, zero_read_segment}
 use Rattle.wire.proofs.Joining.{stored_next, stored_behind}

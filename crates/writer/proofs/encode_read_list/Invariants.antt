@@ -1,15 +1,10 @@
 -- `writer::encode_read_list` meets its contract.
-use mathlib.Core.Path.{◌≡◌, refl}
+use mathlib.Core.Path.{◌≡◌}
 use Prim.Native.Nat.{◌≤◌, ◌-◌}
-use native.Mathlib.Omega.{arith}
 use lib.ListN.{length, take}
-use borrow.Author.Rules.{rules}
-use Rattle.wire.specs.Wire.{stored, joined, zero_read_segment}
-use Rattle.wire.proofs.Joining.{stored_next, stored_behind}
+use Rattle.wire.specs.Wire.{stored, joined}
 use Rattle.chunk_lists.specs.Words.{reads_in}
-use Rattle.chunk_lists.proofs.Words.{length_reads, segment_here}
-use Rattle.header.specs.Bytes.{entry_bytes, read_list_bytes}
-use Rattle.header.proofs.Bytes.{entry_length}
+use Rattle.header.specs.Bytes.{entry_bytes}
 use Rattle.writer.proofs.encode_read_list.Given as goal
 
 abbrev pub invariant-loop-j : goal.invariant-loop-j

@@ -4,7 +4,6 @@ use Prim.Native.Nat.{◌<◌, ◌+◌}
 use native.Mathlib.Nat.{add-zero}
 use native.Mathlib.Omega.{arith}
 use lib.ListN.{get_or}
-use borrow.Author.Rules.{rules}
 use Rattle.wire.proofs.Fields.{then}
 use Rattle.wire.specs.Wire.{word_bytes}
 use Rattle.wire.proofs.Words.{segment_in_bytes}

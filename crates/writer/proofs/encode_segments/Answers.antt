@@ -1,9 +1,9 @@
 -- `writer::encode_segments` meets its contract.
 use mathlib.Core.Path.{◌≡◌, refl, ◌∙◌}
-use Prim.Native.Nat.{◌+◌, ◌≤◌, ◌-◌}
+use Prim.Native.Nat.{◌+◌}
 use native.Mathlib.Omega.{arith}
 use lib.Seq.{get_or-drop}
-use lib.ListN.{length-drop, length, take, drop}
+use lib.ListN.{length-drop, drop}
 use borrow.Author.Rules.{rules}
 use Rattle.wire.specs.Wire.{stored, joined, segment_bytes, zero_segment}
 use Rattle.wire.proofs.Joining.{stored_next}

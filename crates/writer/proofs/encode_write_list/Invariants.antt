@@ -1,21 +1,13 @@
 -- `writer::encode_write_list` meets its contract.
-use mathlib.Core.Path.{◌≡◌, refl}
+use mathlib.Core.Path.{◌≡◌}
 use Prim.Native.Nat.{◌+◌, ◌*◌, ◌≤◌, ◌-◌}
-use native.Mathlib.Omega.{arith}
-use lib.ListN.{get_or, length, take}
-use lib.Seq.{length-take-le}
-use borrow.Author.Rules.{rules}
+use lib.ListN.{length, take}
 use Rattle.wire.specs.Wire.{stored, joined}
-use Rattle.wire.proofs.Fields.{then}
-use Rattle.wire.proofs.Joining.{joined_snoc}
 use Rattle.chunk_lists.specs.Words.{segments_in}
-use Rattle.chunk_lists.proofs.Words.{length_segments}
 use Rattle.header.specs.Content.{runs}
 use Rattle.header.specs.Limits.{total}
 use Rattle.header.specs.Words.{counts_in}
-use Rattle.header.specs.Bytes.{chunk_bytes, write_list_bytes}
-use Rattle.header.proofs.Limits.{total_next, total_within, counts_long, count_here}
-use Rattle.header.proofs.Bytes.{runs_next, chunks_length}
+use Rattle.header.specs.Bytes.{chunk_bytes}
 use Rattle.writer.proofs.encode_write_list.Given as goal
 
 abbrev pub invariant-loop-j : goal.invariant-loop-j

@@ -1,5 +1,4 @@
 -- `writer::error_length` meets its contract.
-use borrow.Author.Rules.{rules}
 use Rattle.wire.specs.Wire.{word_bytes}
 use Rattle.header.specs.Bytes.{error_bytes}
 use Rattle.writer.proofs.error_length.Goals as goal

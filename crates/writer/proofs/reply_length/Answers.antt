@@ -1,5 +1,4 @@
 -- `writer::reply_length` meets its contract.
-use borrow.Author.Rules.{rules}
 use Rattle.writer.proofs.reply_length.Goals as goal
 
 pub returns-then-present : goal.returns-then-present

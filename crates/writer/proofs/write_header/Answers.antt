@@ -5,7 +5,6 @@ use lib.ListN.{length}
 use Rattle.header.specs.Words.{header_in}
 use Rattle.header.proofs.Words.{full_of, header_back}
 use Rattle.writer.proofs.HeaderWriting.{none_written}
-use borrow.Author.Rules.{rules}
 use Rattle.writer.proofs.write_header.Goals as goal
 
 pub returns : goal.returns

@@ -1,6 +1,5 @@
 -- `setup::Size::from_byte` meets its contract.
 use mathlib.Core.Path.{refl}
-use borrow.Author.Rules.{rules}
 use Rattle.setup.proofs.Size.from_byte.Goals as goal
 
 pub returns : goal.returns

@@ -1,7 +1,6 @@
 -- `setup::Size::to_byte` meets its contract.
 use Rattle.setup.proofs.SetupBytes.{in_rule_lem}
 use native.Mathlib.Omega.{arith}
-use borrow.Author.Rules.{rules}
 use Rattle.setup.proofs.Size.to_byte.Goals as goal
 
 pub overflow_sub-result : goal.overflow_sub-result
