@@ -11,8 +11,7 @@ ghost use Rattle.assembly_state.specs.Words.{state_in};
 use assembly::PieceAnswer;
 
 // Starts the reassembly of a call.
-#[unsafe(no_mangle)]
-pub extern "C" fn eos_start(frame: &[u8], out: &mut [u8], state: &mut [u32; 104]) -> u32
+pub fn eos_start(frame: &[u8], out: &mut [u8], state: &mut [u32; 104]) -> u32
     ensures answer { result ≡ start_number (read_frame frame.now) (length out.old) }
     ensures state { state.new ≡ start_words (read_frame frame.now) (length out.old) state.old }
     ensures buffer { out.new ≡ start_buffer (read_frame frame.now) out.old }
@@ -21,12 +20,7 @@ pub extern "C" fn eos_start(frame: &[u8], out: &mut [u8], state: &mut [u32; 104]
 }
 
 // Takes a piece of the pulled bytes, which come in the order of the list of the state. Of the state, only the count changes.
-#[unsafe(no_mangle)]
-pub extern "C" fn eos_take_piece(
-    state: &mut [u32; 104],
-    piece: &[u8],
-    out: &mut [u8],
-) -> PieceAnswer
+pub fn eos_take_piece(state: &mut [u32; 104], piece: &[u8], out: &mut [u8]) -> PieceAnswer
     ensures answer { result ≡ piece_answer (state_in state.old) (length out.old) (length piece.now) }
     ensures state { state.new ≡ piece_words state.old (length out.old) (length piece.now) }
     ensures buffer { out.new ≡ piece_buffer (state_in state.old) piece.now out.old }
@@ -35,8 +29,7 @@ pub extern "C" fn eos_take_piece(
 }
 
 // Asks for the message, the first bytes of the buffer: how many they are, once all bytes are in.
-#[unsafe(no_mangle)]
-pub extern "C" fn eos_message(state: &[u32; 104], out: &[u8], size: &mut usize) -> u32
+pub fn eos_message(state: &[u32; 104], out: &[u8], size: &mut usize) -> u32
     ensures answer { result ≡ message_number (state_in state.now) (length out.now) }
     ensures size { size.new ≡ message_size (state_in state.now) (length out.now) size.old }
 {

@@ -17,8 +17,7 @@ pub struct Part {
 }
 
 // Reads the header of a frame.
-#[unsafe(no_mangle)]
-pub extern "C" fn eos_read_header(frame: &[u8], header: &mut [u32; 238]) -> u32
+pub fn eos_read_header(frame: &[u8], header: &mut [u32; 238]) -> u32
     ensures answer { result ≡ read_number (read_frame frame.now) }
     ensures header { header.new ≡ read_words (read_frame frame.now) header.old }
 {
@@ -26,8 +25,7 @@ pub extern "C" fn eos_read_header(frame: &[u8], header: &mut [u32; 238]) -> u32
 }
 
 // Where the inline payload of a frame lies.
-#[unsafe(no_mangle)]
-pub extern "C" fn eos_payload(frame: &[u8]) -> Part
+pub fn eos_payload(frame: &[u8]) -> Part
     ensures { result ≡ part_of frame.now (payload_of (read_frame frame.now)) }
 {
     let part = reader::payload(frame);
@@ -45,8 +43,7 @@ pub extern "C" fn eos_payload(frame: &[u8]) -> Part
 }
 
 // Writes a header into a buffer.
-#[unsafe(no_mangle)]
-pub extern "C" fn eos_write_header(header: &[u32; 238], out: &mut [u8], size: &mut usize) -> u32
+pub fn eos_write_header(header: &[u32; 238], out: &mut [u8], size: &mut usize) -> u32
     ensures answer { result ≡ (write_words_answer (header_in header.now) (length out.old)).number }
     ensures size { size.new ≡ unless_refused (write_words_answer (header_in header.now) (length out.old)).number (write_words_answer (header_in header.now) (length out.old)).length size.old }
     ensures buffer { out.new ≡ write_words_buffer (header_in header.now) out.old }

@@ -7,8 +7,7 @@ ghost use Rattle.ledger.specs.Ledger.{open_answer, send_answer, send_ledger, rep
 use ledger::{Ledger, SendAnswer};
 
 // Opens a ledger with no call in flight.
-#[unsafe(no_mangle)]
-pub extern "C" fn eos_ledger_open(last: u32, ledger: &mut Ledger) -> u32
+pub fn eos_ledger_open(last: u32, ledger: &mut Ledger) -> u32
     ensures answer { result ≡ (open_answer last).number }
     ensures ledger { ledger.new ≡ (open_answer last).ledger }
 {
@@ -18,8 +17,7 @@ pub extern "C" fn eos_ledger_open(last: u32, ledger: &mut Ledger) -> u32
 }
 
 // Sends a call: takes the next xid, and says how many were passed over.
-#[unsafe(no_mangle)]
-pub extern "C" fn eos_ledger_send(ledger: &mut Ledger) -> SendAnswer
+pub fn eos_ledger_send(ledger: &mut Ledger) -> SendAnswer
     ensures answer { result ≡ send_answer ledger.old }
     ensures ledger { ledger.new ≡ send_ledger ledger.old }
 {
@@ -27,8 +25,7 @@ pub extern "C" fn eos_ledger_send(ledger: &mut Ledger) -> SendAnswer
 }
 
 // Takes a reply: the call leaves, and the grant is set.
-#[unsafe(no_mangle)]
-pub extern "C" fn eos_ledger_reply(ledger: &mut Ledger, xid: u32, grant: u32) -> u32
+pub fn eos_ledger_reply(ledger: &mut Ledger, xid: u32, grant: u32) -> u32
     ensures answer { result ≡ reply_number ledger.old xid grant }
     ensures ledger { ledger.new ≡ reply_ledger ledger.old xid grant }
 {

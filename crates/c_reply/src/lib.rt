@@ -7,8 +7,7 @@ ghost use Rattle.credit.specs.Credit.{grant_answer};
 ghost use Rattle.error_reply.specs.Reply.{error_reply_answer, error_reply_buffer};
 
 // The credits to grant to one who asks.
-#[unsafe(no_mangle)]
-pub extern "C" fn eos_grant(asked: u32, limit: u32, credit: &mut u32) -> u32
+pub fn eos_grant(asked: u32, limit: u32, credit: &mut u32) -> u32
     ensures answer { result ≡ (grant_answer asked limit).number }
     ensures credit { credit.new ≡ unless_refused (grant_answer asked limit).number (grant_answer asked limit).credit credit.old }
 {
@@ -21,8 +20,7 @@ pub extern "C" fn eos_grant(asked: u32, limit: u32, credit: &mut u32) -> u32
 }
 
 // Writes the reply to a frame that got an answer number, if there is one.
-#[unsafe(no_mangle)]
-pub extern "C" fn eos_error_reply(
+pub fn eos_error_reply(
     frame: &[u8],
     number: u32,
     limit: u32,

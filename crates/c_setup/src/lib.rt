@@ -26,8 +26,7 @@ fn setup_in(words: &[u32; 3]) -> Setup
 }
 
 // Reads setup data.
-#[unsafe(no_mangle)]
-pub extern "C" fn eos_read_setup(bytes: &[u8], setup: &mut [u32; 3], present: &mut u32) -> u32
+pub fn eos_read_setup(bytes: &[u8], setup: &mut [u32; 3], present: &mut u32) -> u32
     ensures answer { result ≡ (read_setup bytes.now).number }
     ensures setup { setup.new ≡ setup_words (read_setup bytes.now).setup }
     ensures present { present.new ≡ present_word (read_setup bytes.now) }
@@ -42,8 +41,7 @@ pub extern "C" fn eos_read_setup(bytes: &[u8], setup: &mut [u32; 3], present: &m
 }
 
 // Writes setup data into a buffer.
-#[unsafe(no_mangle)]
-pub extern "C" fn eos_write_setup(setup: &[u32; 3], out: &mut [u8], size: &mut usize) -> u32
+pub fn eos_write_setup(setup: &[u32; 3], out: &mut [u8], size: &mut usize) -> u32
     ensures answer { result ≡ (write_setup_words_answer setup.now (length out.old)).number }
     ensures size { size.new ≡ unless_refused (write_setup_words_answer setup.now (length out.old)).number (write_setup_words_answer setup.now (length out.old)).length size.old }
     ensures buffer { out.new ≡ write_setup_words_buffer setup.now out.old }
@@ -60,8 +58,7 @@ pub extern "C" fn eos_write_setup(setup: &[u32; 3], out: &mut [u8], size: &mut u
 }
 
 // What follows from the setup data of both sides.
-#[unsafe(no_mangle)]
-pub extern "C" fn eos_agree(client: &[u32; 3], server: &[u32; 3], agreement: &mut [u32; 3]) -> u32
+pub fn eos_agree(client: &[u32; 3], server: &[u32; 3], agreement: &mut [u32; 3]) -> u32
     ensures answer { result ≡ (agree_words_answer client.now server.now).number }
     ensures agreement { agreement.new ≡ unless_refused (agree_words_answer client.now server.now).number (agreement_words (agree_words_answer client.now server.now)) agreement.old }
 {
