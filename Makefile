@@ -37,7 +37,7 @@ FILL_PC = scripts/fill packaging/eoswynnor.pc.in VERSION=$(VERSION) PREFIX="$(ca
 all: target/lib/libeoswynnor.a
 
 # The archive is built last.
-target/lib/libeoswynnor.a: $(shell find crates -type f) crates.txt VERSION packaging/eoswynnor.map scripts/library
+target/lib/libeoswynnor.a: $(shell find crates -name out -prune -o -type f -print) crates.txt VERSION packaging/eoswynnor.map scripts/library scripts/program
 	scripts/library
 
 check:

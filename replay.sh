@@ -11,6 +11,6 @@ if [ ! -r "$trace" ] || [ -d "$trace" ]; then
 fi
 "$top/scripts/needs" rt
 echo "proving the program replay and the crates that it uses: a line for each that has changed" >&2
-(cd -- "$top" && scripts/prove check replay)
+"$top/scripts/program"
 # The program has no status of its own: a report is whole if its last line says so.
 "$top/target/bin/replay" <"$trace" | awk '{ print; last = $0 } END { exit last !~ /^(accepted [0-9]+ refused [0-9]+ |too long$)/ }'
