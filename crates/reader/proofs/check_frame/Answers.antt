@@ -17,18 +17,18 @@ returns-then-word_at-ne-VERSION c = simp (le-leb _ _ c.if-size-lt-FIXED_BYTES.fa
 
 pub returns-then-procedure-eq-PROCEDURE_DONE : goal.returns-then-procedure-eq-PROCEDURE_DONE
 unfolding frame_check
-returns-then-procedure-eq-PROCEDURE_DONE c = rw (frame_done c.args.s.now c.word_at.result c.word_at-procedure.result c.if-size-lt-FIXED_BYTES.false c.word_at.ensures c.if-word_at-ne-VERSION.false c.word_at-procedure.ensures c.if-procedure-eq-PROCEDURE_DONE.true)
+returns-then-procedure-eq-PROCEDURE_DONE c = rw (frame_done c.args.s.now c.word_at.result c.word_at-procedure.result c.if-size-lt-FIXED_BYTES.false c.word_at.ensures (omega arith) c.word_at-procedure.ensures c.if-procedure-eq-PROCEDURE_DONE.true)
 
 pub returns-then-procedure-eq-PROCEDURE_ERROR : goal.returns-then-procedure-eq-PROCEDURE_ERROR
-returns-then-procedure-eq-PROCEDURE_ERROR c = rw (c.check_nothing_behind.ensures, c.check_error.ensures, frame_error c.args.s.now c.word_at.result c.word_at-procedure.result c.if-size-lt-FIXED_BYTES.false c.word_at.ensures c.if-word_at-ne-VERSION.false c.word_at-procedure.ensures c.if-procedure-eq-PROCEDURE_ERROR.true) (nothing_behind_lem _ _ (omega arith))
+returns-then-procedure-eq-PROCEDURE_ERROR c = rw (c.check_nothing_behind.ensures, c.check_error.ensures, frame_error c.args.s.now c.word_at.result c.word_at-procedure.result c.if-size-lt-FIXED_BYTES.false c.word_at.ensures (omega arith) c.word_at-procedure.ensures c.if-procedure-eq-PROCEDURE_ERROR.true) (nothing_behind_lem _ _ (omega arith))
 
 pub returns-then-procedure-gt-PROCEDURE_NOMSG : goal.returns-then-procedure-gt-PROCEDURE_NOMSG
 unfolding frame_check
-returns-then-procedure-gt-PROCEDURE_NOMSG c = rw (frame_other c.args.s.now c.word_at.result c.word_at-procedure.result c.if-size-lt-FIXED_BYTES.false c.word_at.ensures c.if-word_at-ne-VERSION.false c.word_at-procedure.ensures c.if-procedure-gt-PROCEDURE_NOMSG.true c.if-procedure-eq-PROCEDURE_DONE.false c.if-procedure-eq-PROCEDURE_ERROR.false)
+returns-then-procedure-gt-PROCEDURE_NOMSG c = rw (frame_other c.args.s.now c.word_at.result c.word_at-procedure.result c.if-size-lt-FIXED_BYTES.false c.word_at.ensures (omega arith) c.word_at-procedure.ensures c.if-procedure-gt-PROCEDURE_NOMSG.true c.if-procedure-eq-PROCEDURE_DONE.false c.if-procedure-eq-PROCEDURE_ERROR.false)
 
 pub returns-then-procedure-eq-PROCEDURE_MSG : goal.returns-then-procedure-eq-PROCEDURE_MSG
-returns-then-procedure-eq-PROCEDURE_MSG c = rw (c.check_lists-walk.ensures, c.lists_kind-kind.ensures, c.if-procedure-eq-PROCEDURE_MSG.true, frame_msg c.args.s.now c.word_at.result c.word_at-procedure.result c.if-size-lt-FIXED_BYTES.false c.word_at.ensures c.if-word_at-ne-VERSION.false c.word_at-procedure.ensures c.if-procedure-eq-PROCEDURE_MSG.true)
+returns-then-procedure-eq-PROCEDURE_MSG c = rw (c.check_lists-walk.ensures, c.lists_kind-kind.ensures, c.if-procedure-eq-PROCEDURE_MSG.true, frame_msg c.args.s.now c.word_at.result c.word_at-procedure.result c.if-size-lt-FIXED_BYTES.false c.word_at.ensures (omega arith) c.word_at-procedure.ensures c.if-procedure-eq-PROCEDURE_MSG.true)
 
 pub returns : goal.returns
 returns c = let one : c.word_at-procedure.result ≡ 1 = omega arith in
-    rw (c.check_nothing_behind-2.ensures, c.check_lists-walk.ensures, c.lists_kind-kind.ensures, one, frame_nomsg c.args.s.now c.word_at.result c.word_at-procedure.result c.if-size-lt-FIXED_BYTES.false c.word_at.ensures c.if-word_at-ne-VERSION.false c.word_at-procedure.ensures one) (nothing_behind_lem _ _ (omega arith))
+    rw (c.check_nothing_behind-2.ensures, c.check_lists-walk.ensures, c.lists_kind-kind.ensures, one, frame_nomsg c.args.s.now c.word_at.result c.word_at-procedure.result c.if-size-lt-FIXED_BYTES.false c.word_at.ensures (omega arith) c.word_at-procedure.ensures one) (nothing_behind_lem _ _ (omega arith))
