@@ -146,7 +146,7 @@ fn any_twice(list: &[u32]) -> bool
 // Whether a ledger gets 17, whatever its last xid.
 fn is_unfit(xids: &[u32], count: u32, grant: u32) -> bool
     requires { length xids.now ≡ 32 }
-    ensures { (last : ℕ) → result ≡ unfit (record { xids = xids.entry.now; count = count; grant = grant; last = last }) }
+    ensures { (last : ℕ) → result ≡ unfit (record { xids = xids.now; count = count; grant = grant; last = last }) }
 {
     if (MAX_IN_FLIGHT as u32) < count {
         return true;

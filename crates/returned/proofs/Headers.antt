@@ -36,34 +36,34 @@ stored_numbers (a ∷ b ∷ c ∷ []) n h = refl
 stored_numbers (a ∷ b ∷ c ∷ d ∷ []) n h = refl
 stored_numbers (a ∷ b ∷ c ∷ d ∷ e ∷ l) n h = absurd (omega arith)
 
-module _ (sent reply : List ℕ) (sent-kind reply-kind : Kind) (sent-present reply_present : Bool) where
+module _ (sent reply : List ℕ) (sent_kind reply_kind : Kind) (sent_present reply_present : Bool) where
   -- The headers that the words hold.
   abbrev pub call : Header
-  call = header_as sent sent-kind sent-present
+  call = header_as sent sent_kind sent_present
 
   abbrev pub answer : Header
-  answer = header_as reply reply-kind reply_present
+  answer = header_as reply reply_kind reply_present
 
   -- The conditions of 26, of the words.
   abbrev pub wrongs : Bool
   wrongs =
       differ (get_or sent xid_at 0) (get_or reply xid_at 0)
       || (differ (get_or reply read_count_at 0) 0
-      || ((is_error sent-kind || is_error reply-kind)
+      || ((is_error sent_kind || is_error reply_kind)
       || (differ (get_or sent write_chunks_at 0) (get_or reply write_chunks_at 0)
       || (any chunk_wrong (pairs (writes_in (get_or sent write_chunks_at 0) sent) (writes_in (get_or reply write_chunks_at 0) reply))
-      || reply_wrong reply-kind (reply_in sent-present sent) (reply_in reply_present reply)))))
+      || reply_wrong reply_kind (reply_in sent_present sent) (reply_in reply_present reply)))))
 
   -- A count over a limit.
-  pub sent_over : limits_kept sent sent-present ≡ false → returned_number call answer ≡ 7
+  pub sent_over : limits_kept sent sent_present ≡ false → returned_number call answer ≡ 7
   unfolding returned_number
   sent_over h = rw h
 
   pub reply_over : limits_kept reply reply_present ≡ false → returned_number call answer ≡ 7
   unfolding returned_number
-  reply_over h = rw (h, and-false (limits_kept sent sent-present))
+  reply_over h = rw (h, and-false (limits_kept sent sent_present))
 
-  module _ (sent-long : length sent ≡ 238) (reply-long : length reply ≡ 238) (sent_in_lem : limits_kept sent sent-present ≡ true) (reply_in_lem : limits_kept reply reply_present ≡ true) where
+  module _ (sent-long : length sent ≡ 238) (reply-long : length reply ≡ 238) (sent_in_lem : limits_kept sent sent_present ≡ true) (reply_in_lem : limits_kept reply reply_present ≡ true) where
     chunk_count : (w : List ℕ) → length w ≡ 238 → get_or w write_chunks_at 0 ≤ 4 → length (writes_in (get_or w write_chunks_at 0) w) ≡ get_or w write_chunks_at 0
     chunk_count w long few =
         let four = counts_long w long in
@@ -72,7 +72,7 @@ module _ (sent reply : List ℕ) (sent-kind reply-kind : Kind) (sent-present rep
     pub wrong_in : mismatch (content_of call) (content_of answer) ≡ wrongs
     unfolding content_of
     wrong_in =
-        let s = few_in_words sent sent-present sent_in_lem in
+        let s = few_in_words sent sent_present sent_in_lem in
         let r = few_in_words reply reply_present reply_in_lem in
         let few = r.reads in
         let full = length_reads reply in

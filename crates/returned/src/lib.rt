@@ -55,7 +55,7 @@ fn segment_fits(sent: Segment, back: Segment, full: bool) -> bool
 // where the sums are equal.
 fn check_chunk(sent: &[u32], reply: &[u32], from: usize, i: usize, n: usize) -> ChunkCheck
     requires { (from + 64 ≤ length sent.now) × (from + 64 ≤ length reply.now) × (i + n ≤ 16) }
-    ensures { result ≡ chunk_check (record { sent = take n (drop i (segments_in from sent.entry.now)); back = take n (drop i (segments_in from reply.now)) }) }
+    ensures { result ≡ chunk_check (record { sent = take n (drop i (segments_in from sent.now)); back = take n (drop i (segments_in from reply.now)) }) }
 {
     let mut offered: u64 = 0;
     let mut landed: u64 = 0;

@@ -43,7 +43,7 @@ shuffle G1 G C1 C P1 P b1 b2 d1 d2 z1 z2 b hb hd hz pg cp cg c1 =
 runs_touch : (a g p l r : ℕ) → a + g ≡ p → from a g ++ from p l ++ from (p + l) r ≡ from a (g + l + r)
 runs_touch a g p l r e = rw (← e) (sym (from_add a (g + l) r ∙ ap (λ (x : List ℕ). x ++ from (a + (g + l)) r) (from_add a g l) ∙ ap (λ (k : ℕ). from a g ++ from (a + g) l ++ from k r) (omega arith)))
 
--- a buffer whose first part, rounded_up to place k, was written anew: its parts
+-- a buffer whose first part, rounded up to place k, was written anew: its parts
 take_front : (a k : ℕ) (x b : List ℕ) → a ≤ length b → a + length x ≡ k → take k (take a b ++ x ++ drop k b) ≡ take a b ++ x
 take_front a k x b h e = take_at (take a b ++ x) (drop k b) k (length-append (take a b) x ∙ ap (λ (n : ℕ). n + length x) (length-take-le a b h) ∙ e)
 
@@ -79,7 +79,7 @@ message_step a p l u m G C P b1 b2 d1 d2 z1 z2 w b le hb hd hz lu pm mb aG aP ih
     front : scatter (from a (p - a) ++ from p l ++ from (p + l) (u - l)) x b ≡ take a b ++ x ++ drop (p + u) b
     front = rw (runs_touch a (p - a) p l (u - l) (omega arith), ← lx, ← ends) (scatter_run a x b (omega (arith, ends)))
 
--- b, from place a on rounded_up to place m, is the message_buffer bytes
+-- b, from place a on rounded up to place m, is the bytes of the message
 pub message_buffer : (a m t : ℕ) (cs : List Run) (base d b : List ℕ) → Placed a t cs → a + length base ≡ t → m ≡ t + rounded_total cs → m ≤ length b → length d ≡ total_length cs →
     scatter (places cs) d (scatter (places (paddings cs)) (replicate (length (places (paddings cs))) 0) (scatter (places (gaps a m cs)) base b)) ≡ take a b ++ message_from a base cs d ++ drop m b
 unfolding places gaps paddings Placed rounded_total message_from scatter total_length
