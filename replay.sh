@@ -12,5 +12,5 @@ fi
 "$top/scripts/needs" rt
 echo "proving the program replay and the crates that it uses: a line for each that has changed" >&2
 "$top/scripts/program"
-# The program has no status of its own: a report is whole if its last line says so.
+# The program's status is 0 in any case: a report is whole if its last line says so.
 "$top/target/bin/replay" <"$trace" | awk '{ print; last = $0 } END { exit last !~ /^(accepted [0-9]+ refused [0-9]+ |too long$)/ }'
