@@ -2,15 +2,17 @@
 -- Assumes nothing.
 use mathlib.Core.Path.{◌≡◌, refl, ◌∙◌, ap, sym}
 use mathlib.Core.Bool.{Bool, true, false}
-use mathlib.Core.List.{List, [], ◌∷◌, ◌++◌}
+use mathlib.Core.List.{List, [], ◌∷◌, ◌++◌, append_assoc}
 use Prim.Native.Nat.{ℕ, suc, ◌+◌, ◌-◌, ◌≤◌, ◌<◌}
-use native.Mathlib.Nat.{add-zero, zero-add, add-suc, suc-add, add_assoc, le_refl}
+use native.Mathlib.Nat.{add-zero, zero-add, add-suc, suc-add, le_refl}
 use native.Mathlib.Omega.{arith}
 use lib.ListN.{length, take, drop, set, replicate, length-drop, length-replicate, replicate-append-replicate}
-use lib.Seq.{take_all, drop_at, get_or-drop, set_comm, sets-eq, length-sets}
+use borrow.Rule.Slice.PartMut.{put_mid}
+use lib.Seq.{take_all, drop-drop, drop_at, set_comm, sets-eq, length-sets}
 use lib.Dec.{leb, eqb}
 use Rattle.wire.specs.Words.{flag_number}
-use Rattle.wire.specs.Wire.{stored, word_at, segment_at, read_segment_at}
+use Rattle.wire.specs.Wire.{stored}
+pub use Rattle.wire.specs.Items.{word_drop, segment_drop, read_segment_drop}
 
 -- The part of a slice from k on.
 pub part_from : (k : ℕ) (s : List ℕ) → take (length s - k) (drop k s) ≡ drop k s
@@ -30,6 +32,11 @@ then l m n i j a b p q e = q ∙ rw (← e, p, stored_append l i a b)
 pub length_stored : {A : Type 0} (l : List A) (i : ℕ) (a : List A) → length (stored l i a) ≡ length l
 unfolding stored
 length_stored l i a = length-sets l i a
+
+-- A part of a buffer, n elements from k on, that holds v now.
+pub put_stored : {A : Type 0} (k n : ℕ) (l part v : List A) → part ≡ v → n ≡ length v → k + n ≤ length l → put_mid k n l part ≡ stored l k v
+unfolding stored
+put_stored k n l part v p e h = rw (sets-eq v l k (omega (arith, e, h)), drop-drop, e, p) (sym (append_assoc (take k l) v _))
 
 -- Runs stored apart may be stored the other way round.
 set_apart : {A : Type 0} (l : List A) (i j : ℕ) (x : A) (b : List A) → i < j → stored (set l i x) j b ≡ set (stored l j b) i x
@@ -52,19 +59,6 @@ behind_first {A} l m n i j a b p q e =
 pub stored_front : (l v : List ℕ) → length v ≤ length l → stored l 0 v ≡ v ++ drop (length v) l
 unfolding stored
 stored_front l v h = sets-eq v l 0 (omega arith) ∙ rw zero-add
-
--- What stands behind k bytes: a word, a segment, a read segment.
-pub word_drop : (k j : ℕ) (s : List ℕ) → word_at (drop k s) j ≡ word_at s (k + j)
-unfolding word_at
-word_drop k j s = simp (get_or-drop, add_assoc)
-
-pub segment_drop : (k j : ℕ) (s : List ℕ) → segment_at (drop k s) j ≡ segment_at s (k + j)
-unfolding segment_at
-segment_drop k j s = simp (word_drop, add_assoc)
-
-pub read_segment_drop : (k j : ℕ) (s : List ℕ) → read_segment_at (drop k s) j ≡ read_segment_at s (k + j)
-unfolding read_segment_at
-read_segment_drop k j s = simp (word_drop, segment_drop, add_assoc)
 
 -- A flag, from its word.
 pub flag_fits_lem : (flag : Bool) → leb (flag_number flag) 1 ≡ true

@@ -9,9 +9,9 @@ use borrow.Author.Tests.{le-leb}
 use lib.ListN.{length, drop, length-drop}
 use lib.Seq.{get_or-drop, drop-drop}
 use Rattle.wire.specs.Wire.{join_bytes, word_at, word_of, segment_at, read_segment_at, word_bytes, segment_bytes, read_segment_bytes}
-use Rattle.wire.proofs.Fields.{word_drop}
+use Rattle.wire.specs.Items.{word_drop}
 use Rattle.wire.specs.Fits.{AllBytes, Word32, SegmentFits, ReadSegmentFits}
-use Rattle.wire.specs.declared.Word.TheVariants.{Value}
+use Rattle.std.specs.Prelude.{Ok}
 use Rattle.wire.specs.declared.Segment.{Segment}
 use Rattle.wire.specs.declared.ReadSegment.{ReadSegment}
 
@@ -170,6 +170,6 @@ unfolding read_segment_bytes segment_bytes word_bytes
 drop_read_segment x r = refl
 
 -- The first word, where it was written.
-pub word_of_back : (x : ℕ) (r : List ℕ) → Word32 x → word_of (word_bytes x ++ r) ≡ Value x
+pub word_of_back : (x : ℕ) (r : List ℕ) → Word32 x → word_of (word_bytes x ++ r) ≡ Ok x
 unfolding word_of
 word_of_back x r h = simp (le-leb 4 (length (word_bytes x ++ r)) (omega (arith, length_word x r)), word_back x r h)

@@ -5,21 +5,13 @@ use mathlib.Core.List.{List, ◌++◌}
 use Prim.Native.Nat.{ℕ, ◌+◌, ◌/◌, ◌%◌, ◌<◌}
 use native.Mathlib.Omega.{arith}
 use native.Mathlib.Nat.{div-add-mod', add-zero}
-use lib.ListN.{length, get_or, drop}
+use lib.ListN.{get_or, drop}
 use lib.Seq.{get_or-drop}
 use Rattle.wire.specs.Wire.{segment_bytes, word_bytes}
 use Rattle.wire.specs.Words.{join_words, segment_in, segment_words, read_segment_in, read_segment_words}
+pub use Rattle.wire.specs.Items.{read_segment_words_lem, segment_words_lem}
 use Rattle.wire.specs.declared.Segment.{Segment}
 use Rattle.wire.specs.declared.ReadSegment.{ReadSegment}
-
--- How many words a read segment and a segment have.
-pub read_segment_words_lem : (x : ReadSegment) → length (read_segment_words x) ≡ 6
-unfolding read_segment_words segment_words
-read_segment_words_lem x = refl
-
-pub segment_words_lem : (x : Segment) → length (segment_words x) ≡ 4
-unfolding segment_words
-segment_words_lem x = refl
 
 -- The words of a segment hold it, and so do those of a read segment.
 pub segment_back : (x : Segment) (t : List ℕ) → segment_in (segment_words x ++ t) ≡ x

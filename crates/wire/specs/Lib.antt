@@ -1,4 +1,4 @@
 pub mod Wire
 pub mod Words
 pub mod Fits
-pub mod Internal
+pub mod Items

@@ -1,8 +1,6 @@
 -- Words and segments on the wire (document 01, "The header on the wire").
-use Rattle.std.specs.Prelude.{ℕ, ◌+◌, ◌*◌, ◌/◌, ◌%◌, cond, List, [], ◌∷◌, ◌++◌, length, get_or, leb}
+use Rattle.std.specs.Prelude.{ℕ, ◌+◌, ◌*◌, ◌/◌, ◌%◌, cond, List, [], ◌∷◌, ◌++◌, length, get_or, leb, Result, Ok, Err}
 use Rattle.std.proofs.lemmas.List.Edits.{sets}
-use Rattle.wire.specs.declared.Word.{Word}
-use Rattle.wire.specs.declared.Word.TheVariants.{Value, Refused}
 use Rattle.wire.specs.declared.Segment.{Segment}
 use Rattle.wire.specs.declared.ReadSegment.{ReadSegment}
 
@@ -15,8 +13,8 @@ unfoldable pub word_at : List ℕ → ℕ → ℕ
 word_at s k = join_bytes (get_or s k 0) (get_or s (k + 1) 0) (get_or s (k + 2) 0) (get_or s (k + 3) 0)
 
 -- "frame ends inside a field that must be there" (5): the first word of s, where s has its four bytes.
-unfoldable pub word_of : List ℕ → Word
-word_of s = cond (leb 4 (length s)) (Value (word_at s 0)) (Refused 5)
+unfoldable pub word_of : List ℕ → Result ℕ ℕ
+word_of s = cond (leb 4 (length s)) (Ok (word_at s 0)) (Err 5)
 
 -- "handle, length, offset", of which "a segment's offset has 64 bits": the segment in the bytes from k on.
 unfoldable pub segment_at : List ℕ → ℕ → Segment

@@ -1,10 +1,13 @@
 // Words and segments, of which every part of a transport header is made, read from a frame and written into a buffer. The types are public, the calls internal to the library: they ask that the bytes are there.
 #![tactic(auto)]
 
-ghost use Rattle.std.specs.Prelude.{◌≡◌, ◌+◌, ◌*◌, ◌≤◌, min, length, drop};
-ghost use Rattle.wire.specs.Words.{join_words, flag_number, segment_in, segment_words, read_segment_in, read_segment_words};
-ghost use Rattle.wire.specs.Wire.{join_bytes, word_at, word_of, segment_at, read_segment_at, stored, word_bytes};
-ghost use Rattle.wire.specs.Internal.Refusal.{refusal_of};
+ghost use Rattle.std.specs.Prelude.{ℕ, ◌≡◌, ◌+◌, ◌*◌, ◌≤◌, List, length, drop};
+ghost use Rattle.answers.specs.Refusals.{numbered};
+ghost use Rattle.wire.specs.Words.{join_words, segment_in, segment_words, read_segment_in, read_segment_words};
+ghost use Rattle.wire.specs.Wire.{word_at, word_of, segment_at, read_segment_at, stored, word_bytes};
+ghost use Rattle.wire.specs.Items.{segment_drop, read_segment_drop, segment_words_lem, read_segment_words_lem};
+
+use answers::Refusal;
 
 // "All numbers on the wire are big-endian 32-bit words, but a segment's offset has 64 bits."
 pub const WORD_BYTES: usize = 4;
@@ -53,24 +56,11 @@ pub struct ReadSegment {
     pub target: Segment,
 }
 
-// A word that is asked for: its value, or the number of the refusal.
-#[derive(Clone, Copy)]
-pub enum Word {
-    Value(u32),
-    Refused(u32),
-}
-
-fn join_bytes(a: u8, b: u8, c: u8, d: u8) -> u32
-    ensures { result ≡ join_bytes a b c d }
-{
-    (a as u32) * 16777216 + (b as u32) * 65536 + (c as u32) * 256 + (d as u32)
-}
-
 // A number of 64 bits from its two words.
 pub fn join_words(high: u32, low: u32) -> u64
     ensures { result ≡ join_words low high }
 {
-    (high as u64) * 4294967296 + (low as u64)
+    u64::from(high) * 4294967296 + u64::from(low)
 }
 
 // The word in the bytes from `k` on.
@@ -78,50 +68,17 @@ pub fn word_at(s: &[u8], k: usize) -> u32
     requires { k + 4 ≤ length s.now }
     ensures { result ≡ word_at s.now k }
 {
-    join_bytes(s[k], s[k + 1], s[k + 2], s[k + 3])
+    u32::from_be_bytes([s[k], s[k + 1], s[k + 2], s[k + 3]])
 }
 
 // The first word.
-pub fn first_word(s: &[u8]) -> Word
-    ensures { result ≡ word_of s.now }
+pub fn first_word(s: &[u8]) -> Result<u32, Refusal>
+    ensures { numbered result ≡ word_of s.now }
 {
     if s.len() < WORD_BYTES {
-        return Word::Refused(answers::ENDS_INSIDE_FIELD);
+        return Err(Refusal::EndsInsideField);
     }
-    Word::Value(word_at(s, 0))
-}
-
-// The number of a refusal.
-pub fn refusal(w: Word) -> u32
-    ensures { result ≡ refusal_of w }
-{
-    match w {
-        Word::Refused(number) => number,
-        Word::Value(_) => 0,
-    }
-}
-
-// The segment in the bytes from `k` on.
-pub fn segment_at(s: &[u8], k: usize) -> Segment
-    requires { k + 16 ≤ length s.now }
-    ensures { result ≡ segment_at s.now k }
-{
-    Segment {
-        handle: word_at(s, k),
-        length: word_at(s, k + 4),
-        offset: join_words(word_at(s, k + 8), word_at(s, k + 12)),
-    }
-}
-
-// The read segment in the bytes from `k` on.
-pub fn read_segment_at(s: &[u8], k: usize) -> ReadSegment
-    requires { k + 20 ≤ length s.now }
-    ensures { result ≡ read_segment_at s.now k }
-{
-    ReadSegment {
-        position: word_at(s, k),
-        target: segment_at(s, k + 4),
-    }
+    Ok(word_at(s, 0))
 }
 
 // Writes a word into the bytes from `k` on.
@@ -129,73 +86,139 @@ pub fn put_word(out: &mut [u8], k: usize, x: u32)
     requires { k + 4 ≤ length out.old }
     ensures { out.new ≡ stored out.old k (word_bytes x) }
 {
-    out[k] = (x / 16777216 % 256) as u8;
-    out[k + 1] = (x / 65536 % 256) as u8;
-    out[k + 2] = (x / 256 % 256) as u8;
-    out[k + 3] = (x % 256) as u8;
+    out[k..k + WORD_BYTES].copy_from_slice(&x.to_be_bytes());
 }
 
-// The segment in the words from `k` on.
-pub fn segment_in(words: &[u32], k: usize) -> Segment
-    requires { k + 4 ≤ length words.now }
-    ensures { result ≡ segment_in (drop k words.now) }
-{
-    Segment {
-        handle: words[k + HANDLE_AT],
-        length: words[k + LENGTH_AT],
-        offset: join_words(words[k + OFFSET_HIGH_AT], words[k + OFFSET_LOW_AT]),
+// What the lists of a header hold, one behind the other: how it lies in their bytes, and in words that a caller lends.
+pub trait Item: Copy {
+    // How many bytes of a list stand before each (a read entry has a marker of its own), and how many it has itself.
+    const MARKER_BYTES: usize;
+
+    const BYTES: usize;
+
+    const WORDS: usize;
+
+    ghost MARKER_BYTES: { ℕ };
+
+    ghost BYTES: { ℕ };
+
+    ghost WORDS: { ℕ };
+
+    ghost item_at: { List ℕ → ℕ → Self };
+
+    ghost item_in: { List ℕ → Self };
+
+    ghost item_words: { Self → List ℕ };
+
+    // The item in the bytes from `k` on.
+    fn decode(s: &[u8], k: usize) -> Self
+        requires { k + BYTES ≤ length s.now }
+        ensures { result ≡ item_at s.now k };
+
+    // The item in the words from `k` on.
+    fn load(words: &[u32], k: usize) -> Self
+        requires { k + WORDS ≤ length words.now }
+        ensures { result ≡ item_in (drop k words.now) };
+
+    // Stores it into the words from `k` on.
+    fn store(self, words: &mut [u32], k: usize)
+        requires { k + WORDS ≤ length words.old }
+        ensures { words.new ≡ stored words.old k (item_words self) };
+
+    // Behind some bytes it is read as at its place among all.
+    ghost item_behind: { (k j : ℕ) (s : List ℕ) → item_at (drop k s) j ≡ item_at s (k + j) };
+
+    // It has so many words.
+    ghost words_long: { (x : Self) → length (item_words x) ≡ WORDS };
+}
+
+impl Item for Segment {
+    const MARKER_BYTES: usize = 0;
+
+    const BYTES: usize = SEGMENT_BYTES;
+
+    const WORDS: usize = SEGMENT_WORDS;
+
+    ghost MARKER_BYTES = { 0 };
+
+    ghost BYTES = { 16 };
+
+    ghost WORDS = { 4 };
+
+    ghost item_at = { segment_at };
+
+    ghost item_in = { segment_in };
+
+    ghost item_words = { segment_words };
+
+    fn decode(s: &[u8], k: usize) -> Segment {
+        Segment {
+            handle: word_at(s, k),
+            length: word_at(s, k + 4),
+            offset: join_words(word_at(s, k + 8), word_at(s, k + 12)),
+        }
     }
-}
 
-// The read segment in the words from `k` on.
-pub fn read_segment_in(words: &[u32], k: usize) -> ReadSegment
-    requires { k + 6 ≤ length words.now }
-    ensures { result ≡ read_segment_in (drop k words.now) }
-{
-    ReadSegment {
-        position: words[k + POSITION_AT],
-        target: segment_in(words, k + TARGET_AT),
+    fn load(words: &[u32], k: usize) -> Segment {
+        Segment {
+            handle: words[k + HANDLE_AT],
+            length: words[k + LENGTH_AT],
+            offset: join_words(words[k + OFFSET_HIGH_AT], words[k + OFFSET_LOW_AT]),
+        }
     }
-}
 
-// Stores a segment into the words from `k` on.
-pub fn store_segment(words: &mut [u32], k: usize, x: Segment)
-    requires { k + 4 ≤ length words.old }
-    ensures { words.new ≡ stored words.old k (segment_words x) }
-{
-    words[k + HANDLE_AT] = x.handle;
-    words[k + LENGTH_AT] = x.length;
-    words[k + OFFSET_LOW_AT] = (x.offset % 4294967296) as u32;
-    words[k + OFFSET_HIGH_AT] = (x.offset / 4294967296) as u32;
-}
-
-// Stores a read segment into the words from `k` on.
-pub fn store_read_segment(words: &mut [u32], k: usize, x: ReadSegment)
-    requires { k + 6 ≤ length words.old }
-    ensures { words.new ≡ stored words.old k (read_segment_words x) }
-{
-    words[k + POSITION_AT] = x.position;
-    words[k + RESERVED_AT] = 0;
-    let target = x.target;
-    store_segment(words, k + TARGET_AT, target);
-}
-
-// A flag as a word.
-pub fn flag_number(flag: bool) -> u32
-    ensures { result ≡ flag_number flag }
-{
-    if flag {
-        return FLAG_SET;
+    fn store(self, words: &mut [u32], k: usize) {
+        words[k + HANDLE_AT] = self.handle;
+        words[k + LENGTH_AT] = self.length;
+        words[k + OFFSET_LOW_AT] = (self.offset % 4294967296) as u32;
+        words[k + OFFSET_HIGH_AT] = (self.offset / 4294967296) as u32;
     }
-    0
+
+    ghost item_behind = { segment_drop };
+
+    ghost words_long = { segment_words_lem };
 }
 
-// The smaller of two numbers.
-pub fn smaller(x: usize, y: usize) -> usize
-    ensures { result ≡ min x y }
-{
-    if x < y {
-        return x;
+impl Item for ReadSegment {
+    const MARKER_BYTES: usize = WORD_BYTES;
+
+    const BYTES: usize = READ_SEGMENT_BYTES;
+
+    const WORDS: usize = READ_SEGMENT_WORDS;
+
+    ghost MARKER_BYTES = { 4 };
+
+    ghost BYTES = { 20 };
+
+    ghost WORDS = { 6 };
+
+    ghost item_at = { read_segment_at };
+
+    ghost item_in = { read_segment_in };
+
+    ghost item_words = { read_segment_words };
+
+    fn decode(s: &[u8], k: usize) -> ReadSegment {
+        ReadSegment {
+            position: word_at(s, k),
+            target: Segment::decode(s, k + WORD_BYTES),
+        }
     }
-    y
+
+    fn load(words: &[u32], k: usize) -> ReadSegment {
+        ReadSegment {
+            position: words[k + POSITION_AT],
+            target: Segment::load(words, k + TARGET_AT),
+        }
+    }
+
+    fn store(self, words: &mut [u32], k: usize) {
+        words[k + POSITION_AT] = self.position;
+        words[k + RESERVED_AT] = 0;
+        self.target.store(words, k + TARGET_AT);
+    }
+
+    ghost item_behind = { read_segment_drop };
+
+    ghost words_long = { read_segment_words_lem };
 }

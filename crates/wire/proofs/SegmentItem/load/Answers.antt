@@ -1,7 +1,7 @@
--- `wire::segment_in` meets its contract.
+-- `wire::SegmentItem::load` meets its contract.
 use Rattle.wire.specs.Words.{segment_in}
 use lib.Seq.{get_or-drop}
-use Rattle.wire.proofs.segment_in.Goals as goal
+use Rattle.wire.proofs.SegmentItem.load.Goals as goal
 
 pub returns : goal.returns
 unfolding segment_in

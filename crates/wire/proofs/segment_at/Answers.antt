@@ -1,7 +1,0 @@
--- `wire::segment_at` meets its contract.
-use Rattle.wire.specs.Wire.{segment_at}
-use Rattle.wire.proofs.segment_at.Goals as goal
-
-pub returns : goal.returns
-unfolding segment_at
-returns c = cc

@@ -1,2 +1,0 @@
--- Definitions that only internal contracts cite: nobody needs to believe them.
-pub mod Refusal
