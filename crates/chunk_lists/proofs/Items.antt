@@ -1,13 +1,16 @@
 -- Laws about items that stand one behind the other, and about storing them one by one.
 -- Assumes nothing.
-use mathlib.Core.Path.{◌≡◌, refl, ap, ◌∙◌}
-use mathlib.Core.List.{List, [], ◌∷◌, append-nil}
+use mathlib.Core.Path.{◌≡◌, refl, sym, ap, subst, ◌∙◌}
+use mathlib.Core.List.{List, ◌∷◌}
 use Prim.Native.Nat.{ℕ, zero, suc, ◌+◌, ◌*◌, ◌≤◌, ◌<◌}
-use native.Mathlib.Nat.{zero-add, zero-mul, suc-mul}
+use native.Mathlib.Nat.{add-zero, zero-add, zero-mul, suc-mul}
 use native.Mathlib.Numerals.{add-one}
 use native.Mathlib.Omega.{arith}
 use lib.ListN.{length, take, drop, set, get_or}
-use lib.Seq.{take_all, drop-drop, drop-cons, drop-length, get_or-take, length-take-le, sets-eq}
+use lib.Seq.{take_all, drop-drop, drop-cons, get_or-take, length-take-le, ext_get_or}
+use denote.Param.Members.{Mut}
+use Rattle.std.specs.Array.{IsFromFnResult, IsFromFnResultFrom}
+use Rattle.std.specs.Iterator.{ActsAs}
 use Rattle.wire.specs.Wire.{stored, joined}
 use Rattle.wire.proofs.Fields.{length_stored}
 use Rattle.wire.proofs.Joining.{stored_next}
@@ -27,6 +30,11 @@ item_at width item (suc n) s zero z h = rw zero-mul
 item_at width item (suc n) s (suc k) z h =
     let e : width + k * width ≡ suc k * width = omega (arith, suc-mul k width) in
     item_at width item n (drop width s) k z (omega arith) ∙ rw (drop-drop (k * width) width s, e)
+
+-- The same of items that are read behind `skip` bytes of their own, from place `from` on.
+pub item_there : {A : Type 0} (item : List ℕ → ℕ → A) → ((k j : ℕ) (s : List ℕ) → item (drop k s) j ≡ item s (k + j)) → (width skip from : ℕ) (s : List ℕ) (n k : ℕ) (z : A) → k < n → item s (from + k * width + skip) ≡ get_or (each width (λ t. item t skip) n (drop from s)) k z
+item_there item behind width skip from s n k z h =
+    sym (item_at width (λ t. item t skip) n (drop from s) k z h ∙ rw (drop-drop (k * width) from s) (behind (from + k * width) skip s))
 
 -- A loop that stores what f gives for the n items of xs, one behind the other from place `to` on: it has stored k of them.
 pub record Storing {A B : Type 0} (f : A → List B) (xs : List A) (n : ℕ) (before out : List B) (to k : ℕ) : Type 0 where
@@ -50,27 +58,6 @@ module _ {A B : Type 0} (f : A → List B) (width : ℕ) (sized : (x : A) → le
   pub storing_ends : n ≤ k → out ≡ stored before to (joined f xs)
   storing_ends none_left = p.so_far ∙ rw (take_all k xs (omega arith))
 
--- An item that is stored as it is, and a list of such items.
-abbrev pub single : {A : Type 0} → A → List A
-single x = x ∷ []
-
-singles : {A : Type 0} (xs : List A) → joined single xs ≡ xs
-unfolding joined
-singles [] = refl
-singles (x ∷ xs) = ap (λ (l : List _). x ∷ l) (singles xs)
-
--- A loop that fills an array with as many items: each turn, and its end.
-module _ {A : Type 0} {xs : List A} {n : ℕ} {before out : List A} {k : ℕ} (p : Storing single xs n before out 0 k) (all : length xs ≡ n) where
-  pub filling_next : k < n → (z x : A) → x ≡ get_or xs k z → Storing single xs n before (set out k x) 0 (k + 1)
-  unfolding stored
-  filling_next more z x is = storing_next single 1 (λ y. refl) p all more z x is k (omega arith) _ refl
-
-  pub filling_ends : length before ≡ n → n ≤ k → out ≡ xs
-  unfolding stored
-  filling_ends long none_left =
-      storing_ends single 1 (λ y. refl) p all none_left
-      ∙ rw (singles xs) (sets-eq xs before 0 (omega arith) ∙ rw (zero-add, all, ← long, drop-length before) (append-nil xs))
-
 -- The next of the first n elements.
 pub next_of : {A : Type 0} (l : List A) (k n : ℕ) (z : A) → k < n → n ≤ length l → drop k (take n l) ≡ get_or l k z ∷ drop (k + 1) (take n l)
 next_of l k n z h few =
@@ -81,3 +68,16 @@ next_of l k n z h few =
 pub store_cons : {A : Type 0} (l : List A) (i : ℕ) (x : A) (xs : List A) → stored l i (x ∷ xs) ≡ stored (set l i x) (i + 1) xs
 unfolding stored
 store_cons l i x xs = rw add-one
+
+-- An array that is made of what calls give, one for each place, of which none changes what is called: each place.
+module _ {F B : Type 0} (g : Mut F (ℕ × Unit {0}) B) (f : F) (h : ℕ → B) (acts : ActsAs g f h) (ys : List B) where
+  made_at : (n i k : ℕ) (z : B) → IsFromFnResultFrom g f ys i n → k < n → get_or ys (i + k) z ≡ h (i + k)
+  made_at zero i k z p more = absurd (omega arith)
+  made_at (suc n) i zero z (q, y, there, called, rest) more = rw add-zero (there.1 z ∙ (acts i y q called).1)
+  made_at (suc n) i (suc k) z (q, y, there, called, rest) more =
+      let next : i + suc k ≡ (i + 1) + k = omega arith in
+      rw next (made_at n (i + 1) k z (subst (λ (p : F). IsFromFnResultFrom g p ys (i + 1) n) (acts i y q called).0 rest) (omega arith))
+
+  pub made_are : (xs : List B) (n : ℕ) (z : B) → IsFromFnResult g f ys n → length xs ≡ n → ((k : ℕ) → k < n → get_or xs k z ≡ h k) → ys ≡ xs
+  made_are xs n z made all here =
+      ext_get_or z ys xs (made.long ∙ sym all) (λ k more. let few : k < n = omega (arith, made.long, more) in let made_here = made_at n 0 k z made.each few in (rw zero-add at made_here) ∙ sym (here k few))

@@ -1,36 +1,28 @@
 -- What a list that was read says of the bytes it was read from: how long it is, where its entries stand, what is behind it.
 -- Assumes nothing.
 use mathlib.Core.Path.{◌≡◌, refl, sym, ap, subst, ◌∙◌}
-use mathlib.Core.Bool.{Bool, true}
+use mathlib.Core.Bool.{true}
 use mathlib.Core.List.{List, [], ◌∷◌}
 use mathlib.Core.Option.{none, some}
-use Prim.Native.Nat.{ℕ, zero, suc, ◌+◌, ◌-◌, ◌*◌, ◌/◌, ◌%◌, ◌≤◌, ◌<◌}
+use Prim.Native.Nat.{ℕ, zero, suc, ◌+◌, ◌-◌, ◌*◌, ◌≤◌}
 use native.Mathlib.Omega.{arith}
-use native.Mathlib.Nat.{add-zero, suc-mul, div-add-mod', mod-lt}
-use lib.ListN.{length, drop, get_or, length-drop, length-append}
+use Rattle.std.specs.Prelude.{Some, None, Result, Ok, Err}
+use Rattle.chunk_lists.specs.declared.ListEnd.{ListEnd}
+use Rattle.chunk_lists.specs.declared.Chunks.{Chunks}
+use native.Mathlib.Nat.{suc-mul}
+use lib.ListN.{length, drop, length-drop, length-append}
 use lib.Seq.{drop-drop}
 use borrow.Author.Tests.{eq-eqb}
-use Rattle.wire.specs.Wire.{word_at, segment_at, read_segment_at, zero_segment, zero_read_segment, joined}
-use Rattle.wire.proofs.Fields.{segment_drop, read_segment_drop}
+use Rattle.wire.specs.Wire.{word_at, segment_at, read_segment_at, joined}
 use Rattle.wire.specs.declared.Segment.{Segment}
 use Rattle.wire.specs.declared.ReadSegment.{ReadSegment}
 use Rattle.chunk_lists.specs.Parsed.{Parsed, refused, done, prepend, each}
 use Rattle.chunk_lists.specs.Lists.{marker_of, read_list, all_aligned, counted, write_list, reply_chunk}
-use Rattle.chunk_lists.specs.Internal.Steps.{is_end, chunk_step, list_check, packed_check, marked_segment_at, chunks_at, ChunksFit}
+use Rattle.chunk_lists.specs.Internal.Steps.{chunk_step, list_check, found, marked_segment_at, chunks_at, ChunksFit}
 use Rattle.chunk_lists.specs.declared.Marker.{Marker}
 use Rattle.chunk_lists.specs.declared.Marker.TheVariants as marker
-use Rattle.chunk_lists.specs.declared.ChunkStep.TheVariants as chunk
-use Rattle.chunk_lists.specs.declared.ListCheck.TheVariants as walk
-use Rattle.chunk_lists.proofs.ListSteps.{read_answer, write_answer, never, end_room, ReadFront, ends, faulty, another, read_front, ChunkFront, chunk_front, unmarked, full, uncounted, Chunk, chunk_of, writes_end, writes_unmarked, writes_full, writes_uncounted, writes_chunk, marker_number, count_number}
+use Rattle.chunk_lists.proofs.ListSteps.{write_answer, never, end_room, ReadFront, ends, faulty, another, read_front, ChunkFront, chunk_front, unmarked, full, uncounted, Chunk, chunk_of, writes_end, writes_unmarked, writes_full, writes_uncounted, writes_chunk, marker_number, count_number}
 use Rattle.chunk_lists.proofs.ListSteps as laws
-use Rattle.chunk_lists.proofs.Items.{item_at}
-
--- Entry k of a read list, and segment k of a run, each where it stands.
-pub entry_here : (s : List ℕ) (n k : ℕ) → k < n → read_segment_at s (k * 24 + 4) ≡ get_or (each 24 marked_segment_at n s) k zero_read_segment
-entry_here s n k h = sym (item_at 24 marked_segment_at n s k zero_read_segment h ∙ read_segment_drop (k * 24) 4 s)
-
-pub segment_there : (from : ℕ) (s : List ℕ) (n k : ℕ) → k < n → segment_at s (from + k * 16) ≡ get_or (each 16 (λ t. segment_at t 0) n (drop from s)) k zero_segment
-segment_there from s n k h = sym (item_at 16 (λ t. segment_at t 0) n (drop from s) k zero_segment h ∙ rw (drop-drop (k * 16) from s) (segment_drop (from + k * 16) 0 s ∙ rw add-zero))
 
 -- A list that has one more entry in front.
 pub record Longer {A : Type 0} (x : A) (p : Parsed (List A)) (l : List A) (t : List ℕ) : Type 0 where
@@ -50,12 +42,16 @@ pub record Checked {A : Type 0} (before : ℕ) (p : Parsed (List A)) (n left : �
   pub many : before + length list ≡ n
   pub rest : length behind ≡ left
 
-pub checked : {A : Type 0} (before : ℕ) (p : Parsed (List A)) (n left : ℕ) → walk.Done n left ≡ list_check before p → Checked before p n left
+ends_same : {a b : ListEnd} → ◌≡◌ {A = Result ListEnd ℕ} (Ok a) (Ok b) → a ≡ b
+ends_same e = cc
+
+pub checked : {A : Type 0} (before : ℕ) (p : Parsed (List A)) (n left : ℕ) → Ok (record { entries = n; left = left }) ≡ list_check before p → Checked before p n left
 unfolding list_check
 checked before (refused k) n left e = absurd (let z : ◌≡◌ {A = ℕ} 0 1 = cc in omega arith)
-checked before (done l t) n left e = record { list = l; behind = t; read = refl; many = cc; rest = cc }
+checked before (done l t) n left e =
+    record { list = l; behind = t; read = refl; many = ap (λ (d : ListEnd). d.entries) (sym (ends_same e)); rest = ap (λ (d : ListEnd). d.left) (sym (ends_same e)) }
 
-pub unchecked : {A : Type 0} (before : ℕ) (p : Parsed (List A)) (n : ℕ) → walk.Refused n ≡ list_check before p → p ≡ refused n
+pub unchecked : {A : Type 0} (before : ℕ) (p : Parsed (List A)) (n : ℕ) → Err n ≡ list_check before p → p ≡ refused n
 unfolding list_check
 unchecked before (refused k) n e = cc
 unchecked before (done l t) n e = absurd (let z : ◌≡◌ {A = ℕ} 0 1 = cc in omega arith)
@@ -149,65 +145,29 @@ read_number_lem (suc room) s n e = go (read_front (suc room) s) (read_number_lem
         let q : prepend x (read_list room (drop 24 s)) ≡ refused n = rw (← r) (sym is ∙ e) in
         again (drop 24 s) n (prepend_refused x (read_list room (drop 24 s)) n q)
 
--- A list by the answer as one number, where no list has an answer from 256 on and no fault a number above 9.
-pub record Packed {A : Type 0} (f : List A → ℕ) (p : Parsed (List A)) (r : ℕ) : Type 0 where
+-- A list by what was answered of its entries.
+pub record Found {A B : Type 0} (f : List A → B) (p : Parsed (List A)) (r : B) : Type 0 where
   pub list : List A
   pub behind : List ℕ
   pub read : p ≡ done list behind
   pub answer : r ≡ f list
 
-module _ {A : Type 0} (f : List A → ℕ) (p : Parsed (List A)) (r : ℕ) (e : r ≡ packed_check f p) where
-  packed_number : ((n : ℕ) → p ≡ refused n → n ≤ 9) → ((l : List A) (t : List ℕ) → p ≡ done l t → f l < 256) → r ≤ 265
-  unfolding packed_check
-  packed_number numbers answers = go p refl e
+module _ {A B : Type 0} (f : List A → B) (p : Parsed (List A)) where
+  pub not_found : (n : ℕ) → Err n ≡ found f p → Err n ≡ list_check 0 p
+  unfolding found list_check
+  not_found n e = go p e
     where
-      go : (q : Parsed (List A)) → p ≡ q → r ≡ packed_check f q → r ≤ 265
-      go (refused n) is same = omega (arith, numbers n is)
-      go (done l t) is same = omega (arith, answers l t is)
+      go : (q : Parsed (List A)) → Err n ≡ found f q → Err n ≡ list_check 0 q
+      go (refused m) same = cc
+      go (done l t) same = absurd (let z : ◌≡◌ {A = ℕ} 0 1 = cc in omega arith)
 
-  packed_refused : ((l : List A) (t : List ℕ) → p ≡ done l t → f l < 256) → 256 ≤ r → walk.Refused (r - 256) ≡ list_check 0 p
-  unfolding packed_check list_check
-  packed_refused answers h = go p refl e
+  is_found : (r : B) → Ok r ≡ found f p → Found f p r
+  unfolding found
+  is_found r e = go p refl e
     where
-      go : (q : Parsed (List A)) → p ≡ q → r ≡ packed_check f q → walk.Refused (r - 256) ≡ list_check 0 p
-      go (refused n) is same = let number : r - 256 ≡ n = omega arith in rw (is, number)
-      go (done l t) is same = absurd (omega (arith, answers l t is))
-
-  packed_done : r < 256 → Packed f p r
-  unfolding packed_check
-  packed_done h = go p refl e
-    where
-      go : (q : Parsed (List A)) → p ≡ q → r ≡ packed_check f q → Packed f p r
-      go (refused n) is same = absurd (omega arith)
-      go (done l t) is same = record { list = l; behind = t; read = is; answer = same }
-
--- The read list at the front of s, by the answer as one number.
-module _ (s : List ℕ) (r : ℕ) (e : r ≡ packed_check (read_answer 16) (read_list 16 s)) where
-  few_entries : (l : List ReadSegment) (t : List ℕ) → read_list 16 s ≡ done l t → read_answer 16 l < 256
-  few_entries l t q = omega (arith, (reads_of 16 s l t q).few)
-
-  pub entries_number_lem : r ≤ 265
-  entries_number_lem = packed_number _ (read_list 16 s) r e (read_number_lem 16 s) few_entries
-
-  pub entries_refused : 256 ≤ r → walk.Refused (r - 256) ≡ list_check 0 (read_list 16 s)
-  entries_refused = packed_refused _ (read_list 16 s) r e few_entries
-
-  entries_of : r < 256 → (4 + r * 24 ≤ length s) × (walk.Done r (length s - 4 - r * 24) ≡ list_check 0 (read_list 16 s))
-  unfolding list_check
-  entries_of h =
-      let k = packed_done _ (read_list 16 s) r e h in
-      let a = reads_of 16 s k.list k.behind k.read in
-      let many : r ≡ length k.list = omega (arith, k.answer) in
-      let size : length k.behind ≡ length s - (4 + length k.list * 24) = ap length a.behind ∙ length-drop (4 + length k.list * 24) s in
-      let left : length s - 4 - r * 24 ≡ length k.behind = omega arith in
-      let same : r ≡ 0 + length k.list = omega arith in
-      (omega (arith, a.long), rw (k.read, left) (ap (λ (n : ℕ). walk.Done n (length k.behind)) same))
-
-  pub entries_long : r < 256 → 4 + r * 24 ≤ length s
-  entries_long h = (entries_of h).0
-
-  pub entries_done : r < 256 → walk.Done r (length s - 4 - r * 24) ≡ list_check 0 (read_list 16 s)
-  entries_done h = (entries_of h).1
+      go : (q : Parsed (List A)) → p ≡ q → Ok r ≡ found f q → Found f p r
+      go (refused n) is same = absurd (let z : ◌≡◌ {A = ℕ} 0 1 = cc in omega arith)
+      go (done l t) is same = record { list = l; behind = t; read = is; answer = cc }
 
 -- A write list that was read.
 pub record WritesAre (room left : ℕ) (s : List ℕ) (cs : List (List Segment)) (t : List ℕ) : Type 0 where
@@ -271,91 +231,53 @@ writes_of (suc room) left s cs t e = go (chunk_front (suc room) left s) (writes_
         let x = longer c (write_list room (left - length c) u) cs t p in
         rw x.is (writes_more room left s c u x.rest t (chunk_of left s c u m q) (again (left - length c) u x.rest t x.read))
 
--- No fault of a write list has a number above 9.
-write_number_lem : (room left : ℕ) (s : List ℕ) (n : ℕ) → write_list room left s ≡ refused n → n ≤ 9
-write_number_lem zero left s n e = go (chunk_front zero left s)
-  where
-    go : ChunkFront zero left s → n ≤ 9
-    go (laws.ChunkFront.ends f m) = absurd (never (sym e ∙ writes_end left s zero m))
-    go (unmarked k f m) = let same : refused k ≡ refused n = sym (writes_unmarked left s zero k m) ∙ e in let equal : k ≡ n = cc in omega (arith, marker_number s k m)
-    go (full f m h) = let same : refused 7 ≡ refused n = sym (writes_full left s zero h m) ∙ e in let equal : 7 ≡ n = cc in omega arith
-    go (uncounted k f m h q) = absurd (omega arith)
-    go (laws.ChunkFront.another c u f m h q) = absurd (omega arith)
-write_number_lem (suc room) left s n e = go (chunk_front (suc room) left s) (write_number_lem room)
-  where
-    go : ChunkFront (suc room) left s → ((left : ℕ) (s : List ℕ) (n : ℕ) → write_list room left s ≡ refused n → n ≤ 9) → n ≤ 9
-    go (laws.ChunkFront.ends f m) again = absurd (never (sym e ∙ writes_end left s (suc room) m))
-    go (unmarked k f m) again = let same : refused k ≡ refused n = sym (writes_unmarked left s (suc room) k m) ∙ e in let equal : k ≡ n = cc in omega (arith, marker_number s k m)
-    go (full f m h) again = absurd (omega arith)
-    go (uncounted k f m h q) again = let same : refused k ≡ refused n = sym (writes_uncounted left s (suc room) k h m q) ∙ e in let equal : k ≡ n = cc in omega (arith, count_number left (drop 4 s) k q)
-    go (laws.ChunkFront.another c u f m h q) again =
-        let r : suc room - 1 ≡ room = omega arith in
-        let p : prepend c (write_list room (left - length c) u) ≡ refused n = rw (← r) (sym (writes_chunk left s (suc room) c u h m q) ∙ e) in
-        again (left - length c) u n (prepend_refused c (write_list room (left - length c) u) n p)
-
--- The write list at the front of s, by the answer as one number.
-module _ (s : List ℕ) (r : ℕ) (e : r ≡ packed_check (write_answer 4 16) (write_list 4 16 s)) where
-  few_chunks : (cs : List (List Segment)) (t : List ℕ) → write_list 4 16 s ≡ done cs t → write_answer 4 16 cs < 256
-  few_chunks cs t q = let a = writes_of 4 16 s cs t q in omega (arith, a.few, a.within)
-
-  pub chunks_number : r ≤ 265
-  chunks_number = packed_number _ (write_list 4 16 s) r e (write_number_lem 4 16 s) few_chunks
-
-  pub chunks_refused : 256 ≤ r → walk.Refused (r - 256) ≡ list_check 0 (write_list 4 16 s)
-  chunks_refused = packed_refused _ (write_list 4 16 s) r e few_chunks
-
-  chunks_of : r < 256 → (4 + r / 32 * 8 + r % 32 * 16 ≤ length s) × (walk.Done (r / 32) (length s - 4 - r / 32 * 8 - r % 32 * 16) ≡ list_check 0 (write_list 4 16 s))
+-- The write list at the front of s, by how many chunks and segments were found.
+module _ (s : List ℕ) (r : Chunks) (e : Ok r ≡ found (write_answer 4 16) (write_list 4 16 s)) where
+  chunks_of : (4 + r.chunks * 8 + r.segments * 16 ≤ length s) × (Ok (record { entries = r.chunks; left = length s - 4 - r.chunks * 8 - r.segments * 16 }) ≡ list_check 0 (write_list 4 16 s))
   unfolding list_check
-  chunks_of h =
-      let k = packed_done _ (write_list 4 16 s) r e h in
+  chunks_of =
+      let k = is_found _ (write_list 4 16 s) r e in
       let a = writes_of 4 16 s k.list k.behind k.read in
-      let cut : r / 32 * 32 + r % 32 ≡ r = div-add-mod' r 32 in
-      let below : r % 32 < 32 = mod-lt r (omega arith) in
-      let chunks : r / 32 ≡ length k.list = omega (arith, k.answer, a.within) in
-      let segments : r % 32 ≡ length (joined (λ c. c) k.list) = omega (arith, k.answer) in
-      let left : length s - 4 - r / 32 * 8 - r % 32 * 16 ≡ length k.behind = omega (arith, a.sized) in
-      let same : r / 32 ≡ 0 + length k.list = omega arith in
-      (omega (arith, a.sized), rw (k.read, left) (ap (λ (n : ℕ). walk.Done n (length k.behind)) same))
+      let chunks : r.chunks ≡ length k.list = omega (arith, ap (λ (c : Chunks). c.chunks) k.answer) in
+      let segments : r.segments ≡ length (joined (λ c. c) k.list) = omega (arith, ap (λ (c : Chunks). c.segments) k.answer) in
+      let left : length s - 4 - r.chunks * 8 - r.segments * 16 ≡ length k.behind = omega (arith, a.sized) in
+      let same : r.chunks ≡ 0 + length k.list = omega arith in
+      (omega (arith, a.sized), rw (k.read, left) (ap (λ (n : ℕ). Ok (record { entries = n; left = length k.behind })) same))
 
-  pub chunks_long : r < 256 → 4 + r / 32 * 8 + r % 32 * 16 ≤ length s
-  chunks_long h = (chunks_of h).0
+  pub chunks_long : 4 + r.chunks * 8 + r.segments * 16 ≤ length s
+  chunks_long = chunks_of.0
 
-  pub chunks_done : r < 256 → walk.Done (r / 32) (length s - 4 - r / 32 * 8 - r % 32 * 16) ≡ list_check 0 (write_list 4 16 s)
-  chunks_done h = (chunks_of h).1
+  pub chunks_done : Ok (record { entries = r.chunks; left = length s - 4 - r.chunks * 8 - r.segments * 16 }) ≡ list_check 0 (write_list 4 16 s)
+  chunks_done = chunks_of.1
 
 -- An empty list, by its marker.
-module _ (s : List ℕ) (m : Marker) (is : m ≡ marker_of s) (end : Bool) (is-end : end ≡ is_end m) (ended : end ≡ true) where
-  end_is : marker_of s ≡ marker.End
-  end_is = sym is ∙ go m (sym is-end ∙ ended)
-    where
-      go : (m : Marker) → is_end m ≡ true → m ≡ marker.End
-      go (marker.Refused n) e = absurd (let z : ◌≡◌ {A = ℕ} 0 1 = cc in omega arith)
-      go marker.End e = refl
-      go marker.Entry e = absurd (let z : ◌≡◌ {A = ℕ} 0 1 = cc in omega arith)
+module _ (s : List ℕ) (m : Result Marker ℕ) (is : m ≡ marker_of s) (ended : m ≡ Ok marker.End) where
+  end_is : marker_of s ≡ Ok marker.End
+  end_is = sym is ∙ ended
 
   -- Its marker is there, and nothing else is read.
   pub marker_there : 4 ≤ length s
   marker_there = end_room s end_is
 
-  none_listed : {A : Type 0} (p : Parsed (List A)) → p ≡ done [] (drop 4 s) → walk.Done 0 (length s - 4) ≡ list_check 0 p
+  none_listed : {A : Type 0} (p : Parsed (List A)) → p ≡ done [] (drop 4 s) → Ok (record { entries = 0; left = (length s - 4) }) ≡ list_check 0 p
   unfolding list_check
   none_listed p e = rw (e, length-drop 4 s)
 
-  pub no_entries : walk.Done 0 (length s - 4) ≡ list_check 0 (read_list 16 s)
+  pub no_entries : Ok (record { entries = 0; left = (length s - 4) }) ≡ list_check 0 (read_list 16 s)
   unfolding read_list
   no_entries = none_listed (read_list 16 s) (rw end_is)
 
-  pub no_chunks : walk.Done 0 (length s - 4) ≡ list_check 0 (write_list 4 16 s)
+  pub no_chunks : Ok (record { entries = 0; left = (length s - 4) }) ≡ list_check 0 (write_list 4 16 s)
   no_chunks = none_listed (write_list 4 16 s) (writes_end 16 s 4 end_is)
 
 -- The reply chunk behind a marker 1.
-pub reply_chunk_lem : (s : List ℕ) (c : List Segment) (u : List ℕ) → marker_of s ≡ marker.Entry → counted 16 (drop 4 s) ≡ done c u → reply_chunk s ≡ done (some c) u
+pub reply_chunk_lem : (s : List ℕ) (c : List Segment) (u : List ℕ) → marker_of s ≡ Ok marker.Entry → counted 16 (drop 4 s) ≡ done c u → reply_chunk s ≡ done (some c) u
 unfolding reply_chunk
 reply_chunk_lem s c u m q = rw (m, q)
 
 -- The reply chunk, by its step.
 module _ (s : List ℕ) where
-  pub reply_refused : (n : ℕ) → chunk_step 1 16 s ≡ chunk.Refused n → reply_chunk s ≡ refused n
+  pub reply_refused : (n : ℕ) → chunk_step 1 16 s ≡ Err n → reply_chunk s ≡ refused n
   unfolding reply_chunk
   reply_refused n e = go (chunk_front 1 16 s)
     where
@@ -366,7 +288,7 @@ module _ (s : List ℕ) where
       go (uncounted k f m h q) = let same : k ≡ n = cc in rw (m, q, same)
       go (laws.ChunkFront.another c u f m h q) = absurd (let z : ◌≡◌ {A = ℕ} 0 1 = cc in omega arith)
 
-  pub reply_absent : chunk_step 1 16 s ≡ chunk.End → (4 ≤ length s) × (reply_chunk s ≡ done none (drop 4 s))
+  pub reply_absent : chunk_step 1 16 s ≡ Ok None → (4 ≤ length s) × (reply_chunk s ≡ done none (drop 4 s))
   unfolding reply_chunk
   reply_absent e = go (chunk_front 1 16 s)
     where
@@ -385,7 +307,7 @@ module _ (s : List ℕ) where
     pub read : reply_chunk s ≡ done (some chunk) (drop (8 + n * 16) s)
     pub is : chunk ≡ each 16 (λ v. segment_at v 0) n (drop 8 s)
 
-  pub reply_present : (n : ℕ) → chunk_step 1 16 s ≡ chunk.Chunk n → ReplyIs n
+  pub reply_present : (n : ℕ) → chunk_step 1 16 s ≡ Ok (Some n) → ReplyIs n
   reply_present n e = go (chunk_front 1 16 s)
     where
       go : ChunkFront 1 16 s → ReplyIs n

@@ -5,25 +5,22 @@ use mathlib.Core.Bool.{Bool, true, false, cond}
 use mathlib.Core.List.{List, [], ◌∷◌}
 use Prim.Native.Nat.{ℕ, zero, suc, ◌+◌, ◌-◌, ◌*◌, ◌%◌, ◌≤◌, ◌<◌}
 use native.Mathlib.Omega.{arith}
+use native.Mathlib.Nat.{add-zero}
+use Rattle.std.specs.Prelude.{Option, Some, None, Result, Ok, Err}
 use borrow.Author.Tests.{leb-true, eqb-true, eqb-false, eq-eqb, ne_eqb, le-leb, lt-leb}
 use lib.ListN.{length, drop, length-drop, length-append}
 use lib.Seq.{drop-drop}
 use lib.Dec.{leb, eqb, eqb-suc-zero}
-use Rattle.wire.specs.Internal.Refusal.{refusal_of}
 use Rattle.wire.specs.Wire.{word_at, word_of, segment_at, read_segment_at, joined}
-use Rattle.wire.specs.declared.Word.{Word}
-use Rattle.wire.specs.declared.Word.TheVariants as word
 use Rattle.wire.specs.declared.Segment.{Segment}
 use Rattle.wire.specs.declared.ReadSegment.{ReadSegment}
 use Rattle.chunk_lists.specs.Parsed.{Parsed, refused, done, and_then, require, prepend, each}
 use Rattle.chunk_lists.specs.Lists.{marker_word, marker_of, read_entry, read_list, segments, after_word, counted, write_list}
-use Rattle.chunk_lists.specs.Internal.Steps.{marked, read_step, count_step, chunk_step, packed_check, chunks_at, ChunksFit}
+use Rattle.chunk_lists.specs.Internal.Steps.{marked, read_step, one_more, entries_in_front, count_step, chunk_step, list_check, found, chunks_at, ChunksFit}
+use Rattle.chunk_lists.specs.declared.Chunks.{Chunks}
+use Rattle.chunk_lists.specs.declared.ListEnd.{ListEnd}
 use Rattle.chunk_lists.specs.declared.Marker.{Marker}
 use Rattle.chunk_lists.specs.declared.Marker.TheVariants as marker
-use Rattle.chunk_lists.specs.declared.ReadStep.{ReadStep}
-use Rattle.chunk_lists.specs.declared.ReadStep.TheVariants as read
-use Rattle.chunk_lists.specs.declared.ChunkStep.{ChunkStep}
-use Rattle.chunk_lists.specs.declared.ChunkStep.TheVariants as chunk
 use Rattle.wire.proofs.Fields.{word_drop, read_segment_drop}
 use Rattle.chunk_lists.proofs.Items.{length_each}
 
@@ -48,53 +45,53 @@ both (refused n) e = absurd (never e)
 both (done a t) e = record { first = a; behind = t; is = refl; then = e }
 
 -- A word that is there has its four bytes.
-pub word_room : (s : List ℕ) (m : ℕ) → word_of s ≡ word.Value m → 4 ≤ length s
+pub word_room : (s : List ℕ) (m : ℕ) → word_of s ≡ Ok m → 4 ≤ length s
 unfolding word_of
 word_room s m e = go (leb 4 (length s)) refl e
   where
-    go : (b : Bool) → leb 4 (length s) ≡ b → cond b (word.Value (word_at s 0)) (word.Refused 5) ≡ word.Value m → 4 ≤ length s
+    go : (b : Bool) → leb 4 (length s) ≡ b → cond {A = Result ℕ ℕ} b (Ok (word_at s 0)) (Err 5) ≡ Ok m → 4 ≤ length s
     go true h q = leb-true 4 (length s) h
     go false h q = absurd (let z : ◌≡◌ {A = ℕ} 0 1 = cc in omega arith)
 
-pub word_is : (s : List ℕ) (m : ℕ) → word_of s ≡ word.Value m → m ≡ word_at s 0
+pub word_is : (s : List ℕ) (m : ℕ) → word_of s ≡ Ok m → m ≡ word_at s 0
 unfolding word_of
 word_is s m e = go (leb 4 (length s)) e
   where
-    go : (b : Bool) → cond b (word.Value (word_at s 0)) (word.Refused 5) ≡ word.Value m → m ≡ word_at s 0
+    go : (b : Bool) → cond {A = Result ℕ ℕ} b (Ok (word_at s 0)) (Err 5) ≡ Ok m → m ≡ word_at s 0
     go true q = cc
     go false q = absurd (let z : ◌≡◌ {A = ℕ} 0 1 = cc in omega arith)
 
 -- A marker that is there has its four bytes.
-pub marker_room : (s : List ℕ) → ((n : ℕ) → marker_of s ≡ marker.Refused n → ⊥) → 4 ≤ length s
+pub marker_room : (s : List ℕ) → ((n : ℕ) → marker_of s ≡ Err n → ⊥) → 4 ≤ length s
 unfolding marker_of
 marker_room s there = go (word_of s) refl
   where
-    go : (w : Word) → word_of s ≡ w → 4 ≤ length s
-    go (word.Refused n) e = absurd (there n (ap marker_word e))
-    go (word.Value m) e = word_room s m e
+    go : (w : Result ℕ ℕ) → word_of s ≡ w → 4 ≤ length s
+    go (Err n) e = absurd (there n (ap marker_word e))
+    go (Ok m) e = word_room s m e
 
-pub end_room : (s : List ℕ) → marker_of s ≡ marker.End → 4 ≤ length s
+pub end_room : (s : List ℕ) → marker_of s ≡ Ok marker.End → 4 ≤ length s
 end_room s e = marker_room s (λ n q. let z : ◌≡◌ {A = ℕ} 0 1 = cc in omega arith)
 
-pub entry_room : (s : List ℕ) → marker_of s ≡ marker.Entry → 4 ≤ length s
+pub entry_room : (s : List ℕ) → marker_of s ≡ Ok marker.Entry → 4 ≤ length s
 entry_room s e = marker_room s (λ n q. let z : ◌≡◌ {A = ℕ} 0 1 = cc in omega arith)
 
 -- The same by a marker m that was read.
-pub entry_there : (s : List ℕ) (m : Marker) → m ≡ marker_of s → m ≡ marker.Entry → 4 ≤ length s
+pub entry_there : (s : List ℕ) (m : Result Marker ℕ) → m ≡ marker_of s → m ≡ Ok marker.Entry → 4 ≤ length s
 entry_there s m is e = entry_room s (sym is ∙ e)
 
 -- What stands at the front of a list, by its marker m.
-module _ {A : Type 0} (fault : ℕ → A) (end entry : A) (room : ℕ) (s : List ℕ) (m : Marker) (is : m ≡ marker_of s) where
-  pub marked_end : m ≡ marker.End → end ≡ marked fault end (marker_of s) room entry
+module _ {A : Type 0} (end : A) (entry : Result A ℕ) (room : ℕ) (s : List ℕ) (m : Result Marker ℕ) (is : m ≡ marker_of s) where
+  pub marked_end : m ≡ Ok marker.End → Ok end ≡ marked end (marker_of s) room entry
   marked_end e = rw (← is, e)
 
-  pub marked_fault : (n : ℕ) → m ≡ marker.Refused n → fault n ≡ marked fault end (marker_of s) room entry
+  pub marked_fault : (n : ℕ) → m ≡ Err n → Err n ≡ marked end (marker_of s) room entry
   marked_fault n e = rw (← is, e)
 
-  pub marked_full : m ≡ marker.Entry → room ≡ 0 → fault 7 ≡ marked fault end (marker_of s) room entry
+  pub marked_full : m ≡ Ok marker.Entry → room ≡ 0 → Err 7 ≡ marked end (marker_of s) room entry
   marked_full e none_left = rw (← is, e, eq-eqb room 0 none_left)
 
-  pub marked_entry : m ≡ marker.Entry → (room ≡ 0 → ⊥) → entry ≡ marked fault end (marker_of s) room entry
+  pub marked_entry : m ≡ Ok marker.Entry → (room ≡ 0 → ⊥) → entry ≡ marked end (marker_of s) room entry
   marked_entry e some_left = rw (← is, e, ne_eqb room 0 some_left)
 
 -- An entry that was read has its 20 bytes.
@@ -113,16 +110,16 @@ entry_of s x u e =
     record { long = leb-true 20 (length s) a.0; is = cc; behind = cc; aligned = eqb-true (word_at s 0 % 4) 0 b.0 }
 
 -- The numbers that a marker and an entry can give.
-pub marker_number : (s : List ℕ) (n : ℕ) → marker_of s ≡ marker.Refused n → n ≤ 9
+pub marker_number : (s : List ℕ) (n : ℕ) → marker_of s ≡ Err n → n ≤ 9
 unfolding marker_of word_of
 marker_number s n e = go (leb 4 (length s)) e
   where
-    valued : (zeroth first : Bool) → cond zeroth marker.End (cond first marker.Entry (marker.Refused 6)) ≡ marker.Refused n → n ≤ 9
+    valued : (zeroth first : Bool) → cond zeroth (Ok marker.End) (cond first (Ok marker.Entry) (Err 6)) ≡ Err n → n ≤ 9
     valued true first q = absurd (let z : ◌≡◌ {A = ℕ} 0 1 = cc in omega arith)
     valued false true q = absurd (let z : ◌≡◌ {A = ℕ} 0 1 = cc in omega arith)
     valued false false q = let six : 6 ≡ n = cc in omega arith
 
-    go : (b : Bool) → marker_word (cond b (word.Value (word_at s 0)) (word.Refused 5)) ≡ marker.Refused n → n ≤ 9
+    go : (b : Bool) → marker_word (cond {A = Result ℕ ℕ} b (Ok (word_at s 0)) (Err 5)) ≡ Err n → n ≤ 9
     go true q = valued (eqb (word_at s 0) 0) (eqb (word_at s 0) 1) q
     go false q = let five : 5 ≡ n = cc in omega arith
 
@@ -141,22 +138,22 @@ position_of x s e = ap (λ (y : ReadSegment). y.position) e
 
 -- The three things that can stand at the front of a read list.
 pub data ReadFront (room : ℕ) (s : List ℕ) : Type 0 where
-  ends : read_step room s ≡ read.End → 4 ≤ length s → read_list room s ≡ done [] (drop 4 s) → ReadFront room s
-  faulty : (n : ℕ) → read_step room s ≡ read.Refused n → n ≤ 9 → read_list room s ≡ refused n → ReadFront room s
-  another : (x : ReadSegment) → read_step room s ≡ read.Entry → 0 < room → 24 ≤ length s → x ≡ read_segment_at s 4 →
+  ends : read_step room s ≡ Ok marker.End → 4 ≤ length s → read_list room s ≡ done [] (drop 4 s) → ReadFront room s
+  faulty : (n : ℕ) → read_step room s ≡ Err n → n ≤ 9 → read_list room s ≡ refused n → ReadFront room s
+  another : (x : ReadSegment) → read_step room s ≡ Ok marker.Entry → 0 < room → 24 ≤ length s → x ≡ read_segment_at s 4 →
       read_list room s ≡ prepend x (read_list (room - 1) (drop 24 s)) → x.position % 4 ≡ 0 → ReadFront room s
 
 pub read_front : (room : ℕ) (s : List ℕ) → ReadFront room s
 unfolding read_step read_list
 read_front zero s = go (marker_of s) refl
   where
-    go : (m : Marker) → marker_of s ≡ m → ReadFront zero s
-    go (marker.Refused n) e = faulty n (rw e) (marker_number s n e) (rw e)
-    go marker.End e = ends (rw e) (end_room s e) (rw e)
-    go marker.Entry e = faulty 7 (rw e) (omega arith) (rw e)
+    go : (m : Result Marker ℕ) → marker_of s ≡ m → ReadFront zero s
+    go (Err n) e = faulty n (rw e) (marker_number s n e) (rw e)
+    go (Ok marker.End) e = ends (rw e) (end_room s e) (rw e)
+    go (Ok marker.Entry) e = faulty 7 (rw e) (omega arith) (rw e)
 read_front (suc room) s = go (marker_of s) refl
   where
-    entered : marker_of s ≡ marker.Entry → (p : Parsed ReadSegment) → read_entry (drop 4 s) ≡ p → ReadFront (suc room) s
+    entered : marker_of s ≡ Ok marker.Entry → (p : Parsed ReadSegment) → read_entry (drop 4 s) ≡ p → ReadFront (suc room) s
     entered e (refused n) q = faulty n (rw (e, eqb-suc-zero room, q)) (entry_number (drop 4 s) n q) (rw (e, q))
     entered e (done x u) q =
         let h = entry_of (drop 4 s) x u q in
@@ -167,10 +164,10 @@ read_front (suc room) s = go (marker_of s) refl
         let at-four : x.position ≡ word_at (drop 4 s) 0 = position_of x (drop 4 s) h.is in
         another x (rw (e, eqb-suc-zero room, q)) (omega arith) (omega (arith, h.long, length-drop 4 s)) is (rw (e, q, rest, room-is)) (rw at-four h.aligned)
 
-    go : (m : Marker) → marker_of s ≡ m → ReadFront (suc room) s
-    go (marker.Refused n) e = faulty n (rw e) (marker_number s n e) (rw e)
-    go marker.End e = ends (rw e) (end_room s e) (rw e)
-    go marker.Entry e = entered e (read_entry (drop 4 s)) refl
+    go : (m : Result Marker ℕ) → marker_of s ≡ m → ReadFront (suc room) s
+    go (Err n) e = faulty n (rw e) (marker_number s n e) (rw e)
+    go (Ok marker.End) e = ends (rw e) (end_room s e) (rw e)
+    go (Ok marker.Entry) e = entered e (read_entry (drop 4 s)) refl
 
 -- A counted run that was read: its count word, and its segments behind it.
 pub record Counted (left : ℕ) (s : List ℕ) (c : List Segment) (u : List ℕ) : Type 0 where
@@ -183,9 +180,9 @@ pub counted_of : (left : ℕ) (s : List ℕ) (c : List Segment) (u : List ℕ) �
 unfolding counted segments
 counted_of left s c u e = go (word_of s) refl e
   where
-    go : (w : Word) → word_of s ≡ w → after_word w (λ n. require (leb n left) 7 (segments n (drop 4 s))) ≡ done c u → Counted left s c u
-    go (word.Refused n) h q = absurd (never q)
-    go (word.Value n) h q =
+    go : (w : Result ℕ ℕ) → word_of s ≡ w → after_word w (λ n. require (leb n left) 7 (segments n (drop 4 s))) ≡ done c u → Counted left s c u
+    go (Err n) h q = absurd (never q)
+    go (Ok n) h q =
         let four = word_room s n h in
         let value = word_is s n h in
         let a = required (leb n left) _ _ q in
@@ -207,36 +204,36 @@ count_number left s n e = go (leb 4 (length s)) e
     counts true false c t q = let five : 5 ≡ n = cc in omega arith
     counts false b c t q = let seven : 7 ≡ n = cc in omega arith
 
-    go : (b : Bool) → after_word (cond b (word.Value (word_at s 0)) (word.Refused 5)) (λ k. require (leb k left) 7 (segments k (drop 4 s))) ≡ refused n → n ≤ 9
+    go : (b : Bool) → after_word (cond {A = Result ℕ ℕ} b (Ok (word_at s 0)) (Err 5)) (λ k. require (leb k left) 7 (segments k (drop 4 s))) ≡ refused n → n ≤ 9
     go true q = counts (leb (word_at s 0) left) (leb (word_at s 0 * 16) (length (drop 4 s))) _ _ q
     go false q = let five : 5 ≡ n = cc in omega arith
 
 -- What can stand at the front of a list of chunks.
 pub data ChunkFront (room left : ℕ) (s : List ℕ) : Type 0 where
-  ends : chunk_step room left s ≡ chunk.End → marker_of s ≡ marker.End → ChunkFront room left s
-  unmarked : (n : ℕ) → chunk_step room left s ≡ chunk.Refused n → marker_of s ≡ marker.Refused n → ChunkFront room left s
-  full : chunk_step room left s ≡ chunk.Refused 7 → marker_of s ≡ marker.Entry → room ≡ 0 → ChunkFront room left s
-  uncounted : (n : ℕ) → chunk_step room left s ≡ chunk.Refused n → marker_of s ≡ marker.Entry → 0 < room → counted left (drop 4 s) ≡ refused n → ChunkFront room left s
-  another : (c : List Segment) (u : List ℕ) → chunk_step room left s ≡ chunk.Chunk (length c) → marker_of s ≡ marker.Entry → 0 < room → counted left (drop 4 s) ≡ done c u → ChunkFront room left s
+  ends : chunk_step room left s ≡ Ok None → marker_of s ≡ Ok marker.End → ChunkFront room left s
+  unmarked : (n : ℕ) → chunk_step room left s ≡ Err n → marker_of s ≡ Err n → ChunkFront room left s
+  full : chunk_step room left s ≡ Err 7 → marker_of s ≡ Ok marker.Entry → room ≡ 0 → ChunkFront room left s
+  uncounted : (n : ℕ) → chunk_step room left s ≡ Err n → marker_of s ≡ Ok marker.Entry → 0 < room → counted left (drop 4 s) ≡ refused n → ChunkFront room left s
+  another : (c : List Segment) (u : List ℕ) → chunk_step room left s ≡ Ok (Some (length c)) → marker_of s ≡ Ok marker.Entry → 0 < room → counted left (drop 4 s) ≡ done c u → ChunkFront room left s
 
 pub chunk_front : (room left : ℕ) (s : List ℕ) → ChunkFront room left s
 unfolding chunk_step
 chunk_front room left s = go (marker_of s) refl
   where
-    counting : marker_of s ≡ marker.Entry → 0 < room → (p : Parsed (List Segment)) → counted left (drop 4 s) ≡ p → ChunkFront room left s
+    counting : marker_of s ≡ Ok marker.Entry → 0 < room → (p : Parsed (List Segment)) → counted left (drop 4 s) ≡ p → ChunkFront room left s
     counting e h (refused n) q = uncounted n (rw (e, ne_eqb room 0 (omega arith), q)) e h q
     counting e h (done c u) q = another c u (rw (e, ne_eqb room 0 (omega arith), q)) e h q
 
-    entered : marker_of s ≡ marker.Entry → (b : Bool) → eqb room 0 ≡ b → ChunkFront room left s
+    entered : marker_of s ≡ Ok marker.Entry → (b : Bool) → eqb room 0 ≡ b → ChunkFront room left s
     entered e true q = full (rw (e, q)) e (eqb-true room 0 q)
     entered e false q =
         let ne = eqb-false room 0 q in
         counting e (omega arith) (counted left (drop 4 s)) refl
 
-    go : (m : Marker) → marker_of s ≡ m → ChunkFront room left s
-    go (marker.Refused n) e = unmarked n (rw e) e
-    go marker.End e = ends (rw e) e
-    go marker.Entry e = entered e (eqb room 0) refl
+    go : (m : Result Marker ℕ) → marker_of s ≡ m → ChunkFront room left s
+    go (Err n) e = unmarked n (rw e) e
+    go (Ok marker.End) e = ends (rw e) e
+    go (Ok marker.Entry) e = entered e (eqb room 0) refl
 
 -- A chunk that was read: its count, and where it ends.
 pub record Chunk (left : ℕ) (s : List ℕ) (c : List Segment) (u : List ℕ) : Type 0 where
@@ -246,7 +243,7 @@ pub record Chunk (left : ℕ) (s : List ℕ) (c : List Segment) (u : List ℕ) :
   pub is : c ≡ each 16 (λ t. segment_at t 0) (length c) (drop 8 s)
   pub behind : u ≡ drop (8 + length c * 16) s
 
-pub chunk_of : (left : ℕ) (s : List ℕ) (c : List Segment) (u : List ℕ) → marker_of s ≡ marker.Entry → counted left (drop 4 s) ≡ done c u → Chunk left s c u
+pub chunk_of : (left : ℕ) (s : List ℕ) (c : List Segment) (u : List ℕ) → marker_of s ≡ Ok marker.Entry → counted left (drop 4 s) ≡ done c u → Chunk left s c u
 chunk_of left s c u m e =
     let h = counted_of left (drop 4 s) c u e in
     let four = entry_room s m in
@@ -263,15 +260,11 @@ chunk_of left s c u m e =
       behind = h.behind ∙ rw (← n, drop-drop (4 + length c * 16) 4 s, eight);
     }
 
--- An entry in front of the rest, in the answer as one number.
-packed_prepend : {A : Type 0} (f g : List A → ℕ) (x : A) (p : Parsed (List A)) → ((l : List A) → f l ≡ g (x ∷ l)) → packed_check f p ≡ packed_check g (prepend x p)
-unfolding packed_check
-packed_prepend f g x (refused n) e = refl
-packed_prepend f g x (done l t) e = e l
-
--- A read list of at most `room` entries as one number.
-abbrev pub read_answer : ℕ → List ReadSegment → ℕ
-read_answer room = λ l. 16 - room + length l
+-- An entry in front of the rest, in what is answered.
+found_prepend : {A B : Type 0} (f g : List A → B) (x : A) (p : Parsed (List A)) → ((l : List A) → f l ≡ g (x ∷ l)) → found f p ≡ found g (prepend x p)
+unfolding found
+found_prepend f g x (refused n) e = refl
+found_prepend f g x (done l t) e = ap Ok (e l)
 
 -- The list goes on behind an entry.
 record Further (room : ℕ) (s : List ℕ) : Type 0 where
@@ -280,86 +273,168 @@ record Further (room : ℕ) (s : List ℕ) : Type 0 where
   long : 24 ≤ length s
   is : read_list room s ≡ prepend first (read_list (room - 1) (drop 24 s))
 
--- What a checking of the read list answers, by its step.
-module _ (room : ℕ) (s : List ℕ) (step : ReadStep) (is-step : step ≡ read_step room s) where
-  pub read_end : step ≡ read.End → 16 - room ≡ packed_check (read_answer room) (read_list room s)
-  unfolding packed_check
-  read_end e = go (read_front room s)
+module _ (room : ℕ) (s : List ℕ) (e : read_step room s ≡ Ok marker.Entry) where
+  read_further : Further room s
+  read_further = go (read_front room s)
     where
-      go : ReadFront room s → 16 - room ≡ packed_check (read_answer room) (read_list room s)
-      go (ends h long is) = rw is (omega arith)
-      go (faulty n f small is) = absurd (let z : ◌≡◌ {A = ℕ} 0 1 = cc in omega arith)
-      go (another x f pos long at4 is aligned) = absurd (let z : ◌≡◌ {A = ℕ} 0 1 = cc in omega arith)
-
-  pub read_refused : (n : ℕ) → step ≡ read.Refused n → (f : List ReadSegment → ℕ) → 256 + n ≡ packed_check f (read_list room s)
-  unfolding packed_check
-  read_refused n e g = go (read_front room s)
-    where
-      go : ReadFront room s → 256 + n ≡ packed_check g (read_list room s)
+      go : ReadFront room s → Further room s
       go (ends f long is) = absurd (let z : ◌≡◌ {A = ℕ} 0 1 = cc in omega arith)
-      go (faulty m f small is) = let same : n ≡ m = cc in rw (is, same)
-      go (another x f pos long at4 is aligned) = absurd (let z : ◌≡◌ {A = ℕ} 0 1 = cc in omega arith)
+      go (faulty m f small is) = absurd (let z : ◌≡◌ {A = ℕ} 0 1 = cc in omega arith)
+      go (another x f pos long at4 is aligned) = record { first = x; room_left = pos; long = long; is = is }
 
-  -- At an entry: there is room for it, its bytes are there, and the answer is that of the list behind it.
-  module _ (e : step ≡ read.Entry) where
-    read_further : Further room s
-    read_further = go (read_front room s)
-      where
-        go : ReadFront room s → Further room s
-        go (ends f long is) = absurd (let z : ◌≡◌ {A = ℕ} 0 1 = cc in omega arith)
-        go (faulty m f small is) = absurd (let z : ◌≡◌ {A = ℕ} 0 1 = cc in omega arith)
-        go (another x f pos long at4 is aligned) = record { first = x; room_left = pos; long = long; is = is }
+  pub read_room : 0 < room
+  read_room = read_further.room_left
 
-    pub read_room : 0 < room
-    read_room = read_further.room_left
+  pub read_long : 24 ≤ length s
+  read_long = read_further.long
 
-    pub read_long : 24 ≤ length s
-    read_long = read_further.long
+-- How many entries stand in front, by what stands there.
+pub front_more : (room : ℕ) (s : List ℕ) → read_step room s ≡ Ok marker.Entry → entries_in_front (room - 1) (drop 24 s) + 1 ≡ entries_in_front room s
+unfolding entries_in_front
+front_more zero s e = absurd (omega (arith, read_room zero s e))
+front_more (suc room) s e = let r : suc room - 1 ≡ room = omega arith in rw (e, r)
 
-    pub read_rest : room ≤ 16 → packed_check (read_answer (room - 1)) (read_list (room - 1) (drop 24 s)) ≡ packed_check (read_answer room) (read_list room s)
-    read_rest most =
-        let f = read_further in
-        rw f.is (packed_prepend _ _ f.first _ (λ l. omega arith))
+pub front_ended : (room : ℕ) (s : List ℕ) → read_step room s ≡ Ok marker.End → 0 ≡ entries_in_front room s
+unfolding entries_in_front
+front_ended zero s e = refl
+front_ended (suc room) s e = rw e
+
+pub front_refused : (room : ℕ) (s : List ℕ) (n : ℕ) → read_step room s ≡ Err n → 0 ≡ entries_in_front room s
+unfolding entries_in_front
+front_refused zero s n e = refl
+front_refused (suc room) s n e = rw e
+
+pub front_few : (room : ℕ) (s : List ℕ) → entries_in_front room s ≤ room
+unfolding entries_in_front
+front_few zero s = omega arith
+front_few (suc room) s = go (read_step (suc room) s) (front_few room (drop 24 s))
+  where
+    go : (step : Result Marker ℕ) → entries_in_front room (drop 24 s) ≤ room → one_more step (entries_in_front room (drop 24 s)) ≤ suc room
+    go (Err n) few = omega arith
+    go (Ok marker.End) few = omega arith
+    go (Ok marker.Entry) few = omega arith
+
+-- A list with one more entry in front, checked.
+prepend_refusal : {A : Type 0} (x : A) (p : Parsed (List A)) (n : ℕ) → Err n ≡ list_check 0 p → Err n ≡ list_check 0 (prepend x p)
+unfolding list_check
+prepend_refusal x (refused m) n e = e
+prepend_refusal x (done l t) n e = absurd (let z : ◌≡◌ {A = ℕ} 0 1 = cc in omega arith)
+
+prepend_checked : {A : Type 0} (x : A) (p : Parsed (List A)) (n left : ℕ) → Ok (record { entries = n; left = left }) ≡ list_check 0 p → Ok (record { entries = n + 1; left = left }) ≡ list_check 0 (prepend x p)
+unfolding list_check
+prepend_checked x (refused m) n left e = absurd (let z : ◌≡◌ {A = ℕ} 0 1 = cc in omega arith)
+prepend_checked x (done l t) n left e = go _ e
+  where
+    go : (d : ListEnd) → ◌≡◌ {A = Result ListEnd ℕ} (Ok d) (Ok (record { entries = 0 + length l; left = length t })) →
+        ◌≡◌ {A = Result ListEnd ℕ} (Ok (record { entries = d.entries + 1; left = d.left })) (Ok (record { entries = 0 + suc (length l); left = length t }))
+    go d q = let same : ◌≡◌ {A = ListEnd} d (record { entries = 0 + length l; left = length t }) = cc in
+        let more : 0 + length l + 1 ≡ 0 + suc (length l) = omega arith in
+        rw (same, more)
+
+-- What stands behind the n entries in front ends the list, or is its fault.
+pub record Stops (room : ℕ) (s : List ℕ) (n : ℕ) : Type 0 where
+  pub few : n ≤ room
+  pub long : n * 24 ≤ length s
+  pub faulty : (k : ℕ) → read_step (room - n) (drop (n * 24) s) ≡ Err k → Err k ≡ list_check 0 (read_list room s)
+  pub ended : read_step (room - n) (drop (n * 24) s) ≡ Ok marker.End → (n * 24 + 4 ≤ length s) × (Ok (record { entries = n; left = length s - n * 24 - 4 }) ≡ list_check 0 (read_list room s))
+  pub no_more : read_step (room - n) (drop (n * 24) s) ≡ Ok marker.Entry → ⊥
+
+pub ended_by : (room : ℕ) (s : List ℕ) (n : ℕ) → Stops room s n → (m : Marker) → read_step (room - n) (drop (n * 24) s) ≡ Ok m →
+    (n * 24 + 4 ≤ length s) × (Ok (record { entries = n; left = length s - n * 24 - 4 }) ≡ list_check 0 (read_list room s))
+ended_by room s n p marker.End e = p.ended e
+ended_by room s n p marker.Entry e = absurd (p.no_more e)
+
+stops_here : (room : ℕ) (s : List ℕ) → (read_step room s ≡ Ok marker.Entry → ⊥) → Stops room s 0
+unfolding list_check
+stops_here room s none =
+    let all : room - 0 ≡ room = omega arith in
+    record {
+      few = omega arith;
+      long = omega arith;
+      faulty = λ k e. fault (read_front room s) k (rw all at e);
+      ended = λ e. end (read_front room s) (rw all at e);
+      no_more = λ e. none (rw all at e);
+    }
+  where
+    fault : ReadFront room s → (k : ℕ) → read_step room s ≡ Err k → Err k ≡ list_check 0 (read_list room s)
+    fault (ends f long is) k e = absurd (let z : ◌≡◌ {A = ℕ} 0 1 = cc in omega arith)
+    fault (faulty m f small is) k e = let same : k ≡ m = cc in rw (is, same)
+    fault (another x f pos long at4 is aligned) k e = absurd (let z : ◌≡◌ {A = ℕ} 0 1 = cc in omega arith)
+
+    end : ReadFront room s → read_step room s ≡ Ok marker.End → (0 * 24 + 4 ≤ length s) × (Ok (record { entries = 0; left = length s - 0 * 24 - 4 }) ≡ list_check 0 (read_list room s))
+    end (ends f long is) e = (omega arith, let left : length s - 0 * 24 - 4 ≡ length s - 4 = omega arith in rw (is, left, length-drop 4 s))
+    end (faulty m f small is) e = absurd (let z : ◌≡◌ {A = ℕ} 0 1 = cc in omega arith)
+    end (another x f pos long at4 is aligned) e = absurd (let z : ◌≡◌ {A = ℕ} 0 1 = cc in omega arith)
+
+stops_later : (room : ℕ) (s : List ℕ) (n : ℕ) → read_step room s ≡ Ok marker.Entry → Stops (room - 1) (drop 24 s) n → Stops room s (n + 1)
+stops_later room s n e later =
+    let f = read_further room s e in
+    let pos = f.room_left in
+    let long = f.long in
+    let few = later.few in
+    let size = length-drop 24 s in
+    let rest : room - 1 - n ≡ room - (n + 1) = omega arith in
+    let place : 24 + n * 24 ≡ (n + 1) * 24 = omega arith in
+    let same : read_step (room - 1 - n) (drop (n * 24) (drop 24 s)) ≡ read_step (room - (n + 1)) (drop ((n + 1) * 24) s) = rw (rest, drop-drop (n * 24) 24 s, place) in
+    record {
+      few = omega arith;
+      long = omega (arith, later.long);
+      faulty = λ k q. rw f.is (prepend_refusal f.first (read_list (room - 1) (drop 24 s)) k (later.faulty k (same ∙ q)));
+      ended = λ q. let d = later.ended (same ∙ q) in
+          let left : length s - (n + 1) * 24 - 4 ≡ length (drop 24 s) - n * 24 - 4 = omega arith in
+          (omega (arith, d.0), rw (f.is, left) (prepend_checked f.first (read_list (room - 1) (drop 24 s)) n _ d.1));
+      no_more = λ q. later.no_more (same ∙ q);
+    }
+
+pub stops : (room : ℕ) (s : List ℕ) → Stops room s (entries_in_front room s)
+unfolding entries_in_front
+stops zero s = stops_here zero s (λ e. absurd (omega (arith, read_room zero s e)))
+stops (suc room) s = go (read_step (suc room) s) refl (stops room (drop 24 s))
+  where
+    go : (step : Result Marker ℕ) → read_step (suc room) s ≡ step → Stops room (drop 24 s) (entries_in_front room (drop 24 s)) → Stops (suc room) s (one_more step (entries_in_front room (drop 24 s)))
+    go (Err n) e again = stops_here (suc room) s (λ q. let z : ◌≡◌ {A = ℕ} 0 1 = cc in omega arith)
+    go (Ok marker.End) e again = stops_here (suc room) s (λ q. let z : ◌≡◌ {A = ℕ} 0 1 = cc in omega arith)
+    go (Ok marker.Entry) e again = let r : suc room - 1 ≡ room = omega arith in stops_later (suc room) s _ e (rw r again)
 
 -- The write list, by what stands at its front.
 module _ (left : ℕ) (s : List ℕ) where
-  pub writes_end : (room : ℕ) → marker_of s ≡ marker.End → write_list room left s ≡ done [] (drop 4 s)
+  pub writes_end : (room : ℕ) → marker_of s ≡ Ok marker.End → write_list room left s ≡ done [] (drop 4 s)
   unfolding write_list
   writes_end zero e = rw e
   writes_end (suc room) e = rw e
 
-  pub writes_unmarked : (room n : ℕ) → marker_of s ≡ marker.Refused n → write_list room left s ≡ refused n
+  pub writes_unmarked : (room n : ℕ) → marker_of s ≡ Err n → write_list room left s ≡ refused n
   unfolding write_list
   writes_unmarked zero n e = rw e
   writes_unmarked (suc room) n e = rw e
 
-  pub writes_full : (room : ℕ) → room ≡ 0 → marker_of s ≡ marker.Entry → write_list room left s ≡ refused 7
+  pub writes_full : (room : ℕ) → room ≡ 0 → marker_of s ≡ Ok marker.Entry → write_list room left s ≡ refused 7
   unfolding write_list
   writes_full zero z e = rw e
   writes_full (suc room) z e = absurd (omega arith)
 
-  pub writes_uncounted : (room n : ℕ) → 0 < room → marker_of s ≡ marker.Entry → counted left (drop 4 s) ≡ refused n → write_list room left s ≡ refused n
+  pub writes_uncounted : (room n : ℕ) → 0 < room → marker_of s ≡ Ok marker.Entry → counted left (drop 4 s) ≡ refused n → write_list room left s ≡ refused n
   unfolding write_list
   writes_uncounted zero n h e q = absurd (omega arith)
   writes_uncounted (suc room) n h e q = rw (e, q)
 
-  pub writes_chunk : (room : ℕ) (c : List Segment) (u : List ℕ) → 0 < room → marker_of s ≡ marker.Entry → counted left (drop 4 s) ≡ done c u →
+  pub writes_chunk : (room : ℕ) (c : List Segment) (u : List ℕ) → 0 < room → marker_of s ≡ Ok marker.Entry → counted left (drop 4 s) ≡ done c u →
       write_list room left s ≡ prepend c (write_list (room - 1) (left - length c) u)
   unfolding write_list
   writes_chunk zero c u h e q = absurd (omega arith)
   writes_chunk (suc room) c u h e q = let r : suc room - 1 ≡ room = omega arith in rw (e, q, r)
 
--- A chunk of n segments more, in the answer as one number.
+-- A chunk of n segments more, in what is answered.
 chunk_counts : (room left n a b c : ℕ) → 0 < room → room ≤ 4 → n ≤ left → left ≤ 16 → c ≡ n + b →
-    (4 - (room - 1) + a) * 32 + (16 - (left - n) + b) ≡ (4 - room + suc a) * 32 + (16 - left + c)
+    ◌≡◌ {A = Chunks} (record { chunks = 4 - (room - 1) + a; segments = 16 - (left - n) + b }) (record { chunks = 4 - room + suc a; segments = 16 - left + c })
 chunk_counts room left n a b c more few within most e =
-    let r : 4 - (room - 1) ≡ 4 - room + 1 = omega arith in
-    let l : 16 - (left - n) ≡ 16 - left + n = omega arith in
-    rw (r, l, e) (omega arith)
+    let r : 4 - (room - 1) + a ≡ 4 - room + suc a = omega arith in
+    let l : 16 - (left - n) + b ≡ 16 - left + c = omega arith in
+    rw (r, l)
 
--- A write list of at most `room` chunks with at most `left` segments as one number.
-abbrev pub write_answer : ℕ → ℕ → List (List Segment) → ℕ
-write_answer room left = λ cs. (4 - room + length cs) * 32 + (16 - left + length (joined (λ c. c) cs))
+-- How many chunks and segments a write list of at most `room` chunks with at most `left` segments has.
+abbrev pub write_answer : ℕ → ℕ → List (List Segment) → Chunks
+write_answer room left = λ cs. record { chunks = 4 - room + length cs; segments = 16 - left + length (joined (λ c. c) cs) }
 
 -- The list goes on behind a chunk of n segments.
 record FurtherChunk (room left : ℕ) (s : List ℕ) (n : ℕ) : Type 0 where
@@ -371,23 +446,23 @@ record FurtherChunk (room left : ℕ) (s : List ℕ) (n : ℕ) : Type 0 where
   is : write_list room left s ≡ prepend first (write_list (room - 1) (left - n) (drop (8 + n * 16) s))
 
 -- What a checking of the write list answers, by its step.
-module _ (room left : ℕ) (s : List ℕ) (step : ChunkStep) (is-step : step ≡ chunk_step room left s) where
-  pub write_end : step ≡ chunk.End → (4 - room) * 32 + (16 - left) ≡ packed_check (write_answer room left) (write_list room left s)
-  unfolding packed_check joined
+module _ (room left : ℕ) (s : List ℕ) (step : Result (Option ℕ) ℕ) (is-step : step ≡ chunk_step room left s) where
+  pub write_end : step ≡ Ok None → Ok (record { chunks = 4 - room; segments = 16 - left }) ≡ found (write_answer room left) (write_list room left s)
+  unfolding found joined
   write_end e = go (chunk_front room left s)
     where
-      go : ChunkFront room left s → (4 - room) * 32 + (16 - left) ≡ packed_check (write_answer room left) (write_list room left s)
-      go (ends f m) = rw (writes_end left s room m) (omega arith)
+      go : ChunkFront room left s → Ok (record { chunks = 4 - room; segments = 16 - left }) ≡ found (write_answer room left) (write_list room left s)
+      go (ends f m) = simp (writes_end left s room m, add-zero)
       go (unmarked n f m) = absurd (let z : ◌≡◌ {A = ℕ} 0 1 = cc in omega arith)
       go (full f m h) = absurd (let z : ◌≡◌ {A = ℕ} 0 1 = cc in omega arith)
       go (uncounted n f m h q) = absurd (let z : ◌≡◌ {A = ℕ} 0 1 = cc in omega arith)
       go (another c u f m h q) = absurd (let z : ◌≡◌ {A = ℕ} 0 1 = cc in omega arith)
 
-  pub write_refused : (n : ℕ) → step ≡ chunk.Refused n → (f : List (List Segment) → ℕ) → 256 + n ≡ packed_check f (write_list room left s)
-  unfolding packed_check
+  pub write_refused : (n : ℕ) → step ≡ Err n → {B : Type 0} (f : List (List Segment) → B) → Err n ≡ found f (write_list room left s)
+  unfolding found
   write_refused n e g = go (chunk_front room left s)
     where
-      go : ChunkFront room left s → 256 + n ≡ packed_check g (write_list room left s)
+      go : ChunkFront room left s → Err n ≡ found g (write_list room left s)
       go (ends f m) = absurd (let z : ◌≡◌ {A = ℕ} 0 1 = cc in omega arith)
       go (unmarked k f m) = let same : n ≡ k = cc in rw (writes_unmarked left s room k m, same)
       go (full f m h) = let same : n ≡ 7 = cc in rw (writes_full left s room h m, same)
@@ -395,7 +470,7 @@ module _ (room left : ℕ) (s : List ℕ) (step : ChunkStep) (is-step : step ≡
       go (another c u f m h q) = absurd (let z : ◌≡◌ {A = ℕ} 0 1 = cc in omega arith)
 
   -- At a chunk: there is room for it, its bytes are there, and the answer is that of the list behind it.
-  module _ (n : ℕ) (e : step ≡ chunk.Chunk n) where
+  module _ (n : ℕ) (e : step ≡ Ok (Some n)) where
     write_further : FurtherChunk room left s n
     write_further = go (chunk_front room left s)
       where
@@ -425,34 +500,34 @@ module _ (room left : ℕ) (s : List ℕ) (step : ChunkStep) (is-step : step ≡
     pub write_long : 8 + n * 16 ≤ length s
     write_long = write_further.long
 
-    pub write_rest : room ≤ 4 → left ≤ 16 → packed_check (write_answer (room - 1) (left - n)) (write_list (room - 1) (left - n) (drop (8 + n * 16) s)) ≡ packed_check (write_answer room left) (write_list room left s)
+    pub write_rest : room ≤ 4 → left ≤ 16 → found (write_answer (room - 1) (left - n)) (write_list (room - 1) (left - n) (drop (8 + n * 16) s)) ≡ found (write_answer room left) (write_list room left s)
     unfolding joined
     write_rest most all =
         let f = write_further in
-        rw f.is (packed_prepend _ _ f.first _ (λ l. chunk_counts room left n (length l) (length (joined (λ x. x) l)) _ f.room_left most f.few all (length-append f.first (joined (λ x. x) l) ∙ rw f.many)))
+        rw f.is (found_prepend _ _ f.first _ (λ l. chunk_counts room left n (length l) (length (joined (λ x. x) l)) _ f.room_left most f.few all (length-append f.first (joined (λ x. x) l) ∙ rw f.many)))
 
 -- What a count answers, by its word w.
-module _ (left : ℕ) (s : List ℕ) (w : Word) (is : w ≡ word_of s) where
-  pub count_unread : (k r : ℕ) → w ≡ word.Refused k → r ≡ refusal_of w → chunk.Refused r ≡ count_step (counted left s)
+module _ (left : ℕ) (s : List ℕ) (w : Result ℕ ℕ) (is : w ≡ word_of s) where
+  pub count_unread : (k : ℕ) → w ≡ Err k → Err k ≡ count_step (counted left s)
   unfolding counted
-  count_unread k r e number = rw (← is, number, e)
+  count_unread k e = rw (← is, e)
 
-  module _ (n : ℕ) (e : w ≡ word.Value n) where
-    value : word_of s ≡ word.Value n
+  module _ (n : ℕ) (e : w ≡ Ok n) where
+    value : word_of s ≡ Ok n
     value = sym is ∙ e
 
-    pub count_over : left < n → chunk.Refused 7 ≡ count_step (counted left s)
+    pub count_over : left < n → Err 7 ≡ count_step (counted left s)
     unfolding counted
     count_over h = rw (value, lt-leb n left h)
 
-    pub count_short : n ≤ left → length s < 4 + n * 16 → chunk.Refused 5 ≡ count_step (counted left s)
+    pub count_short : n ≤ left → length s < 4 + n * 16 → Err 5 ≡ count_step (counted left s)
     unfolding counted segments
     count_short few h =
         let four = word_room s n value in
         let short : length (drop 4 s) < n * 16 = omega (arith, length-drop 4 s) in
         rw (value, le-leb n left few, lt-leb (n * 16) (length (drop 4 s)) short)
 
-    pub count_chunk : n ≤ left → 4 + n * 16 ≤ length s → chunk.Chunk n ≡ count_step (counted left s)
+    pub count_chunk : n ≤ left → 4 + n * 16 ≤ length s → Ok n ≡ count_step (counted left s)
     unfolding counted segments
     count_chunk few h =
         let long : n * 16 ≤ length (drop 4 s) = omega (arith, length-drop 4 s) in

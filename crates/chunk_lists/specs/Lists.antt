@@ -1,9 +1,7 @@
 -- The three lists of a header, read (document 01, "The header on the wire" and "The numbers and their order"; document 02, order 3).
-use Rattle.std.specs.Prelude.{ℕ, zero, suc, ◌-◌, ◌*◌, ◌%◌, Bool, true, cond, ◌&&◌, List, [], ◌∷◌, length, drop, leb, eqb}
+use Rattle.std.specs.Prelude.{ℕ, zero, suc, ◌-◌, ◌*◌, ◌%◌, Bool, true, cond, ◌&&◌, List, [], ◌∷◌, length, drop, leb, eqb, Result, Ok, Err}
 use Rattle.std.proofs.Math.Option.{Option, none, some}
 use Rattle.wire.specs.Wire.{word_at, word_of, segment_at, read_segment_at}
-use Rattle.wire.specs.declared.Word.{Word}
-use Rattle.wire.specs.declared.Word.TheVariants as word
 use Rattle.wire.specs.declared.Segment.{Segment}
 use Rattle.wire.specs.declared.ReadSegment.{ReadSegment}
 use Rattle.chunk_lists.specs.Parsed.{Parsed, refused, done, and_then, require, prepend, each}
@@ -24,23 +22,23 @@ abbrev pub max_reply_segments : ℕ
 max_reply_segments = 16
 
 -- What a word decides; 5 where it is not there.
-abbrev pub after_word : {A : Type 0} → Word → (ℕ → Parsed A) → Parsed A
-after_word (word.Refused n) next = refused n
-after_word (word.Value x) next = next x
+abbrev pub after_word : {A : Type 0} → Result ℕ ℕ → (ℕ → Parsed A) → Parsed A
+after_word (Err n) next = refused n
+after_word (Ok x) next = next x
 
 -- "a marker word 1, an entry ..; a marker word 0 ends it", and "a marker word above 1": 6.
-abbrev pub marker_word : Word → Marker
-marker_word (word.Refused n) = marker.Refused n
-marker_word (word.Value m) = cond (eqb m 0) marker.End (cond (eqb m 1) marker.Entry (marker.Refused 6))
+abbrev pub marker_word : Result ℕ ℕ → Result Marker ℕ
+marker_word (Err n) = Err n
+marker_word (Ok m) = cond (eqb m 0) (Ok marker.End) (cond (eqb m 1) (Ok marker.Entry) (Err 6))
 
-unfoldable pub marker_of : List ℕ → Marker
+unfoldable pub marker_of : List ℕ → Result Marker ℕ
 marker_of s = marker_word (word_of s)
 
 -- "Each list is optional data as XDR has it": `absent` where a marker 0 stands; behind a marker 1 `present` goes on.
-abbrev pub after_marker : {A : Type 0} → Marker → List ℕ → A → (List ℕ → Parsed A) → Parsed A
-after_marker (marker.Refused n) t absent present = refused n
-after_marker marker.End t absent present = done absent t
-after_marker marker.Entry t absent present = present t
+abbrev pub after_marker : {A : Type 0} → Result Marker ℕ → List ℕ → A → (List ℕ → Parsed A) → Parsed A
+after_marker (Err n) t absent present = refused n
+after_marker (Ok marker.End) t absent present = done absent t
+after_marker (Ok marker.Entry) t absent present = present t
 
 abbrev pub optional : {A : Type 0} → A → (List ℕ → Parsed A) → List ℕ → Parsed A
 optional absent present s = after_marker (marker_of s) (drop 4 s) absent present

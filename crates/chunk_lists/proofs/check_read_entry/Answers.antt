@@ -19,10 +19,10 @@ pub returns-then-s-lt-READ_SEGMENT_BYTES : goal.returns-then-s-lt-READ_SEGMENT_B
 unfolding read_entry
 returns-then-s-lt-READ_SEGMENT_BYTES c = simp (lt-leb _ _ c.if-s-lt-READ_SEGMENT_BYTES.true)
 
-pub returns-then-up-p : goal.returns-then-up-p
+pub returns-then-rounded-position : goal.returns-then-rounded-position
 unfolding read_entry
-returns-then-up-p c = simp (le-leb _ _ c.if-s-lt-READ_SEGMENT_BYTES.false, ← c.word_at-position.ensures, unaligned _ _ c.rounded-up.ensures c.if-up-p.true)
+returns-then-rounded-position c = simp (le-leb _ _ c.if-s-lt-READ_SEGMENT_BYTES.false, ← c.word_at-position.ensures, unaligned _ _ c.rounded.ensures c.if-rounded-position.true)
 
 pub returns : goal.returns
 unfolding read_entry
-returns c = simp (le-leb _ _ c.if-s-lt-READ_SEGMENT_BYTES.false, ← c.word_at-position.ensures, aligned _ _ c.rounded-up.ensures c.if-up-p.false)
+returns c = simp (le-leb _ _ c.if-s-lt-READ_SEGMENT_BYTES.false, ← c.word_at-position.ensures, aligned _ _ c.rounded.ensures c.if-rounded-position.false)

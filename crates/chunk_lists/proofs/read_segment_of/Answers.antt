@@ -5,4 +5,4 @@ use borrow.Author.Rules.{rules}
 use Rattle.chunk_lists.proofs.read_segment_of.Goals as goal
 
 pub returns : goal.returns
-returns c = c.read_segment_in.ensures ∙ sym (segment_here c.args.words.now c.args.i (search rules))
+returns c = c.load.ensures ∙ sym (segment_here c.args.words.now c.args.i (search rules))

@@ -1,20 +1,14 @@
 -- `chunk_lists::store_segments` meets its contract.
 use mathlib.Core.Path.{refl}
 use borrow.Author.Rules.{rules}
-use Rattle.wire.specs.Wire.{zero_segment}
-use Rattle.wire.proofs.Words.{segment_words_lem}
-use Rattle.chunk_lists.specs.Words.{segments_words}
 use Rattle.chunk_lists.proofs.Items.{storing_starts, storing_next, storing_ends}
 use Rattle.chunk_lists.proofs.store_segments.Goals as goal
 
 pub loop-k-init : goal.loop-k-init
-unfolding segments_words
-loop-k-init c = storing_starts _ _ _ _ _
+loop-k-init g c = storing_starts _ _ _ _ _
 
 pub loop-k-preserved : goal.loop-k-preserved
-unfolding segments_words
-loop-k-preserved c = storing_next _ 4 segment_words_lem c.loop-k.invariant (search rules) c.loop-k-test.true zero_segment _ refl _ refl _ c.store_segment.ensures
+loop-k-preserved g c = storing_next _ g.T.Item.WORDS g.met.T.Item.words_long c.loop-k.invariant (search rules) c.loop-k-test.true c.index-segments-k.result _ refl _ (rw c.WORDS.ensures) _ c.store.ensures
 
 pub returns : goal.returns
-unfolding segments_words
-returns c = storing_ends _ 4 segment_words_lem c.loop-k.invariant (search rules) c.loop-k-test.false
+returns g c = storing_ends _ g.T.Item.WORDS g.met.T.Item.words_long c.loop-k.invariant (search rules) c.loop-k-test.false

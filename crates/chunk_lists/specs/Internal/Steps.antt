@@ -1,5 +1,5 @@
 -- What the functions under the readers answer, case by case, from the definitions of the lists.
-use Rattle.std.specs.Prelude.{ℕ, zero, suc, ◌+◌, ◌-◌, ◌*◌, ◌≤◌, Bool, true, false, cond, List, [], ◌∷◌, map, length, drop, eqb}
+use Rattle.std.specs.Prelude.{ℕ, zero, suc, ◌+◌, ◌-◌, ◌*◌, ◌≤◌, cond, List, [], ◌∷◌, map, length, drop, eqb, Option, Some, None, Result, Ok, Err}
 use Rattle.wire.specs.Wire.{word_at, segment_at, read_segment_at, stored, joined}
 use Rattle.wire.specs.declared.Segment.{Segment}
 use Rattle.wire.specs.declared.ReadSegment.{ReadSegment}
@@ -7,51 +7,55 @@ use Rattle.chunk_lists.specs.Parsed.{Parsed, refused, done, each}
 use Rattle.chunk_lists.specs.Lists.{marker_of, read_entry, counted}
 use Rattle.chunk_lists.specs.declared.Marker.{Marker}
 use Rattle.chunk_lists.specs.declared.Marker.TheVariants as marker
-use Rattle.chunk_lists.specs.declared.ReadStep.{ReadStep}
-use Rattle.chunk_lists.specs.declared.ReadStep.TheVariants as read
-use Rattle.chunk_lists.specs.declared.ChunkStep.{ChunkStep}
-use Rattle.chunk_lists.specs.declared.ChunkStep.TheVariants as chunk
-use Rattle.chunk_lists.specs.declared.ListCheck.{ListCheck}
-use Rattle.chunk_lists.specs.declared.ListCheck.TheVariants as walk
+use Rattle.chunk_lists.specs.declared.ListEnd.{ListEnd}
 use Rattle.chunk_lists.specs.Words.{segments_words}
 
--- Whether a marker ends its list.
-abbrev pub is_end : Marker → Bool
-is_end (marker.Refused n) = false
-is_end marker.End = true
-is_end marker.Entry = false
-
 -- An entry of the read list, or the number.
-abbrev pub entry_step : Parsed ReadSegment → ReadStep
-entry_step (refused n) = read.Refused n
-entry_step (done x t) = read.Entry
+abbrev pub entry_step : Parsed ReadSegment → Result Marker ℕ
+entry_step (refused n) = Err n
+entry_step (done x t) = Ok marker.Entry
 
 -- What stands at the front of a list of at most `room` entries: a fault, its end, or an entry.
-abbrev pub marked : {A : Type 0} → (ℕ → A) → A → Marker → ℕ → A → A
-marked fault end (marker.Refused n) room entry = fault n
-marked fault end marker.End room entry = end
-marked fault end marker.Entry room entry = cond (eqb room 0) (fault 7) entry
+abbrev pub marked : {A : Type 0} → A → Result Marker ℕ → ℕ → Result A ℕ → Result A ℕ
+marked end (Err n) room entry = Err n
+marked end (Ok marker.End) room entry = Ok end
+marked end (Ok marker.Entry) room entry = cond (eqb room 0) (Err 7) entry
 
-unfoldable pub read_step : ℕ → List ℕ → ReadStep
-read_step room s = marked read.Refused read.End (marker_of s) room (entry_step (read_entry (drop 4 s)))
+unfoldable pub read_step : ℕ → List ℕ → Result Marker ℕ
+read_step room s = marked marker.End (marker_of s) room (entry_step (read_entry (drop 4 s)))
+
+-- How many entries stand at the front of a list of at most `room`, one behind the other.
+abbrev pub one_more : Result Marker ℕ → ℕ → ℕ
+one_more (Err n) behind = 0
+one_more (Ok marker.End) behind = 0
+one_more (Ok marker.Entry) behind = behind + 1
+
+unfoldable pub entries_in_front : ℕ → List ℕ → ℕ
+entries_in_front zero s = 0
+entries_in_front (suc room) s = one_more (read_step (suc room) s) (entries_in_front room (drop 24 s))
 
 -- A counted run of segments: how many, or the number.
-abbrev pub count_step : Parsed (List Segment) → ChunkStep
-count_step (refused n) = chunk.Refused n
-count_step (done c t) = chunk.Chunk (length c)
+abbrev pub count_step : Parsed (List Segment) → Result ℕ ℕ
+count_step (refused n) = Err n
+count_step (done c t) = Ok (length c)
 
-unfoldable pub chunk_step : ℕ → ℕ → List ℕ → ChunkStep
-chunk_step room left s = marked chunk.Refused chunk.End (marker_of s) room (count_step (counted left (drop 4 s)))
+-- A chunk of so many segments.
+abbrev pub one_chunk : Result ℕ ℕ → Result (Option ℕ) ℕ
+one_chunk (Err n) = Err n
+one_chunk (Ok n) = Ok (Some n)
+
+unfoldable pub chunk_step : ℕ → ℕ → List ℕ → Result (Option ℕ) ℕ
+chunk_step room left s = marked None (marker_of s) room (one_chunk (count_step (counted left (drop 4 s))))
 
 -- A whole list, behind `before` entries: how many entries there are then, and the bytes left behind it.
-unfoldable pub list_check : {A : Type 0} → ℕ → Parsed (List A) → ListCheck
-list_check before (refused n) = walk.Refused n
-list_check before (done l t) = walk.Done (before + length l) (length t)
+unfoldable pub list_check : {A : Type 0} → ℕ → Parsed (List A) → Result ListEnd ℕ
+list_check before (refused n) = Err n
+list_check before (done l t) = Ok (record { entries = before + length l; left = length t })
 
--- A whole list as one number, what `answer` says of its entries: a refusal is 256 and its number.
-unfoldable pub packed_check : {A : Type 0} → (List A → ℕ) → Parsed (List A) → ℕ
-packed_check answer (refused n) = 256 + n
-packed_check answer (done l t) = answer l
+-- A whole list, by what `answer` says of its entries.
+unfoldable pub found : {A B : Type 0} → (List A → B) → Parsed (List A) → Result B ℕ
+found answer (refused n) = Err n
+found answer (done l t) = Ok (answer l)
 
 -- The chunks of a write list that was read, by their count words: the next count word stands behind a marker.
 unfoldable pub chunks_at : ℕ → List ℕ → List (List Segment)
