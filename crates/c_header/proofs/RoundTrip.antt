@@ -15,8 +15,7 @@ use Rattle.chunk_lists.proofs.WordsFit.{words_behind, reads_fit, segments_fit}
 use Rattle.header.specs.declared.Kind.{Kind}
 use Rattle.header.specs.declared.Kind.TheVariants.{Msg, Nomsg, Error}
 use Rattle.header.specs.declared.ErrorKind.TheVariants.{Version, Chunk}
-use Rattle.header.specs.declared.Known.{Known}
-use Rattle.header.specs.declared.Known.TheVariants.{Is, No}
+use Rattle.std.specs.Prelude.{Option, Some, None}
 use Rattle.header.specs.Content.{Content, header_of}
 use Rattle.reader.specs.Frame.{read_frame, payload_of, read_number, read_words}
 use Rattle.header.specs.Words.{kind_in, header_as, header_found, header_in, header_words}
@@ -40,14 +39,14 @@ some_words zero l f = tt
 some_words (suc n) [] f = tt
 some_words (suc n) (x ∷ l) f = (f 0, some_words n l (λ i. f (suc i)))
 
-kind_fits_lem : (number low high : ℕ) → Word32 low → Word32 high → (kind : Kind) → kind_in number low high ≡ Is kind → KindFits kind
+kind_fits_lem : (number low high : ℕ) → Word32 low → Word32 high → (kind : Kind) → kind_in number low high ≡ Some kind → KindFits kind
 unfolding kind_in
 kind_fits_lem number low high l h kind = by (eqb number 0) (eqb number 1) (eqb number 2) (eqb number 3)
   where
-    same : {x y : Kind} → Is x ≡ Is y → x ≡ y
+    same : {x y : Kind} → Some x ≡ Some y → x ≡ y
     same e = cc
 
-    by : (a b c d : Bool) → cond a (Is Msg) (cond b (Is Nomsg) (cond c (Is (Error (Version low high))) (cond d (Is (Error Chunk)) No))) ≡ Is kind → KindFits kind
+    by : (a b c d : Bool) → cond a (Some Msg) (cond b (Some Nomsg) (cond c (Some (Error (Version low high))) (cond d (Some (Error Chunk)) None))) ≡ Some kind → KindFits kind
     by true b c d e = subst KindFits (same e) tt
     by false true c d e = subst KindFits (same e) tt
     by false false true d e = subst KindFits (same e) (l, h)
@@ -80,10 +79,10 @@ words_representable w f long h = by (kind_in (get_or w 232 0) (get_or w 233 0) (
     is : {x y : Header} → some x ≡ some y → x ≡ y
     is e = cc
 
-    by : (known : Known) → kind_in (get_or w 232 0) (get_or w 233 0) (get_or w 234 0) ≡ known → (fits : Bool) → header_found w known fits ≡ some h → Representable h
-    by No k fits e = absurd (let z : ◌≡◌ {A = ℕ} 0 1 = cc in omega arith)
-    by (Is kind) k false e = absurd (let z : ◌≡◌ {A = ℕ} 0 1 = cc in omega arith)
-    by (Is kind) k true e = subst Representable (is e) (held w f long kind (eqb (get_or w 230 0) 1) (kind_fits_lem _ _ _ (f 233) (f 234) kind k))
+    by : (known : Option Kind) → kind_in (get_or w 232 0) (get_or w 233 0) (get_or w 234 0) ≡ known → (fits : Bool) → header_found w known fits ≡ some h → Representable h
+    by None k fits e = absurd (let z : ◌≡◌ {A = ℕ} 0 1 = cc in omega arith)
+    by (Some kind) k false e = absurd (let z : ◌≡◌ {A = ℕ} 0 1 = cc in omega arith)
+    by (Some kind) k true e = subst Representable (is e) (held w f long kind (eqb (get_or w 230 0) 1) (kind_fits_lem _ _ _ (f 233) (f 234) kind k))
 
 -- "what was read, written again, gives the frame's bytes before its payload": the words that `eos_read_header` stored, lent to `eos_write_header`.
 pub export_read_written : (s out w : List ℕ) (c : Content) (t : List ℕ) → AllBytes s → read_frame s ≡ done c t → length s ≤ length out + length t →

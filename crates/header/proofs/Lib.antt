@@ -6,3 +6,4 @@ pub mod Contents
 pub mod Representable
 pub mod Zeroed
 pub mod Longest
+pub mod Outcomes

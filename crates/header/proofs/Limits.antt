@@ -1,62 +1,51 @@
 -- Laws about the counts of a header and their limits.
 -- Assumes nothing.
-use mathlib.Core.Path.{◌≡◌, refl, ap}
+use mathlib.Core.Path.{◌≡◌, refl, ap, ◌∙◌}
 use mathlib.Core.Bool.{Bool, true, false, cond}
-use mathlib.Core.List.{List, [], ◌∷◌, ◌++◌}
-use Prim.Native.Nat.{ℕ, zero, suc, ◌+◌, ◌≤◌, ◌<◌, min}
-use native.Mathlib.Numerals.{add-one}
+use mathlib.Core.List.{List, [], ◌∷◌}
+use Prim.Native.Nat.{ℕ, ◌+◌, ◌≤◌, ◌<◌}
 use native.Mathlib.Omega.{arith}
 use lib.ListN.{length, take, drop, get_or, length-drop}
-use lib.Seq.{take-suc, length-take-le, get_or-drop, get_or-take}
-use lib.Dec.{eqb, leb}
-use borrow.Author.Tests.{leb-true, lt-leb, ne_eqb}
+use lib.Seq.{length-take-le, get_or-drop, get_or-take}
+use lib.Dec.{leb}
+use Rattle.std.specs.Prelude.{sum_by}
+use Rattle.std.proofs.lemmas.List.{length-take, take-take}
+use Rattle.std.proofs.lemmas.List.Sums.{sum_by-cons, sum_by_more, sum_by_more_le}
+use borrow.Author.Tests.{leb-true}
 use Rattle.answers.proofs.Checks.{both_hold}
 use Rattle.header.specs.Words.{read_count_at, write_chunks_at, reply_count_at, counts_in}
 use Rattle.header.specs.Internal.Counts.{limits_kept}
 use Rattle.header.specs.Limits.{total, within_limits}
 
--- The total of counts and one more.
-pub total_snoc : (ns : List ℕ) (n : ℕ) → total (ns ++ (n ∷ [])) ≡ total ns + n
+-- It is std's sum.
+pub total_is_sum : (ns : List ℕ) → sum_by (λ n. n) ns ≡ total ns
 unfolding total
-total_snoc [] n = omega arith
-total_snoc (m ∷ ns) n = omega (arith, total_snoc ns n)
+total_is_sum [] = refl
+total_is_sum (n ∷ ns) = sum_by-cons (λ m. m) n ns ∙ ap (λ t. n + t) (total_is_sum ns)
 
 -- The total of one count more.
 pub total_next : (ns : List ℕ) (k : ℕ) → k < length ns → total (take (k + 1) ns) ≡ total (take k ns) + get_or ns k 0
-total_next ns k h = rw (add-one, take-suc ns k 0 h) (total_snoc (take k ns) (get_or ns k 0))
-
--- The total of the first counts is within that of more.
-pub total_take : (ns : List ℕ) (j k : ℕ) → j ≤ k → total (take j ns) ≤ total (take k ns)
-unfolding total
-total_take ns zero k h = omega arith
-total_take ns (suc j) zero h = absurd (omega arith)
-total_take [] (suc j) (suc k) h = omega arith
-total_take (n ∷ ns) (suc j) (suc k) h = omega (arith, total_take ns j k (omega arith))
+total_next ns k h = rw (← (total_is_sum (take (k + 1) ns)), ← (total_is_sum (take k ns))) (sum_by_more (λ n. n) ns k 0 h)
 
 -- One more of them is within the total.
 pub total_within : (ns : List ℕ) (j k : ℕ) → j < k → k ≤ length ns → total (take j ns) + get_or ns j 0 ≤ total (take k ns)
-total_within ns j k h few = rw (← (total_next ns j (omega arith))) (total_take ns (j + 1) k (omega arith))
+total_within ns j k h few =
+    let within : sum_by (λ n. n) (take j (take k ns)) + get_or (take k ns) j 0 ≤ sum_by (λ n. n) (take k ns) = sum_by_more_le (λ n. n) (take k ns) j 0 (rw (length-take-le k ns few) h) in
+    rw (take-take j k ns (omega arith), get_or-take k ns j 0 h, total_is_sum (take j ns), total_is_sum (take k ns)) at within
 
--- No more are taken than there are.
-pub take_most : (n k : ℕ) (ns : List ℕ) → k ≡ min n (length ns) → take n ns ≡ take k ns
-take_most zero zero ns h = refl
-take_most zero (suc k) ns h = absurd (omega arith)
-take_most (suc n) zero [] h = refl
-take_most (suc n) zero (m ∷ ns) h = absurd (omega arith)
-take_most (suc n) (suc k) [] h = absurd (omega arith)
-take_most (suc n) (suc k) (m ∷ ns) h = ap (λ t. m ∷ t) (take_most n k ns (omega arith))
-
--- Within 0 is 0.
-pub only_zero : (n : ℕ) → eqb n 0 ≡ leb n 0
-only_zero zero = refl
-only_zero (suc n) = rw (ne_eqb (suc n) 0 (λ e. omega arith), lt-leb (suc n) 0 (omega arith))
-
--- The counts of the write chunks in words: there are four, and where they stand.
+-- The counts of the write chunks in words: there are four, of which no more are taken, and where they stand.
 pub counts_long : (w : List ℕ) → length w ≡ 238 → length (counts_in w) ≡ 4
 counts_long w e = length-take-le 4 (drop 224 w) (rw length-drop (omega arith))
 
+pub counts_few : (n : ℕ) (w : List ℕ) → length (take n (counts_in w)) ≤ 4
+counts_few n w = omega (arith, length-take n (counts_in w), length-take 4 (drop 224 w))
+
 pub count_here : (w : List ℕ) (k : ℕ) → k < 4 → get_or (counts_in w) k 0 ≡ get_or w (224 + k) 0
 count_here w k h = rw (get_or-take, get_or-drop)
+
+-- One count more is within their total.
+pub count_within : (w : List ℕ) (j n : ℕ) → length w ≡ 238 → j < n → n ≤ 4 → total (take j (counts_in w)) + get_or w (224 + j) 0 ≤ total (take n (counts_in w))
+count_within w j n long h few = let four = counts_long w long in rw (count_here w j (omega arith)) at (total_within (counts_in w) j n h (omega arith))
 
 -- The replies are few, be there a chunk or not.
 pub few_in : (present : Bool) (n : ℕ) → n ≤ cond present 16 0 → n ≤ 16

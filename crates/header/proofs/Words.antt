@@ -1,21 +1,24 @@
 -- A header and the words that hold it.
 -- Assumes nothing.
-use mathlib.Core.Path.{◌≡◌, refl, sym, ap, ◌∙◌}
+use mathlib.Core.Path.{◌≡◌, refl, sym, ◌∙◌}
 use mathlib.Core.Bool.{Bool, true, false}
 use mathlib.Core.List.{List, [], ◌∷◌, ◌++◌, append_assoc}
 use mathlib.Core.Option.{none, some}
+use Rattle.std.specs.Prelude.{Some, None}
 use Prim.Native.Nat.{ℕ, ◌+◌, ◌≤◌, ◌<◌}
 use native.Mathlib.Nat.{zero-add}
 use native.Mathlib.Omega.{arith}
-use lib.ListN.{length, take, drop, get_or, replicate, length-append, length-drop, length-map}
-use lib.Seq.{take_at, drop_at, get_or-append-add, get_or-drop}
+use lib.ListN.{length, take, drop, get_or, replicate, length-replicate, length-append, length-map}
+use lib.Seq.{take_at, drop_at, drop-drop, drop-cons, get_or-append-add}
 use lib.Dec.{leb, eqb}
 use mir.Val.{Val}
 use denote.Shadow.{shadow}
 use borrow.Author.Rules.{rules}
 use borrow.Author.Tests.{le-leb, lt-leb}
 use Rattle.wire.specs.Wire.{stored}
-use Rattle.wire.proofs.Fields.{then, stored_front, flag_fits_lem, flag_back}
+use Rattle.std.proofs.lemmas.List.Edits.{sets-eq}
+use borrow.Rule.Slice.PartMut.{put_mid}
+use Rattle.wire.proofs.Fields.{then, stored_front, length_stored, flag_fits_lem, flag_back}
 use Rattle.wire.specs.contracts.Segment as segment
 use Rattle.wire.specs.contracts.ReadSegment as read-segment
 use Rattle.chunk_lists.specs.contracts.ReadList as read-list
@@ -28,11 +31,10 @@ use Rattle.header.specs.Words.{reply_present_at, kind_at, low_at, high_at, kind_
 use Rattle.header.specs.declared.Kind.{Kind}
 use Rattle.header.specs.declared.Kind.TheVariants.{Msg, Nomsg, Error}
 use Rattle.header.specs.declared.ErrorKind.TheVariants.{Version, Chunk}
-use Rattle.header.specs.declared.Known.TheVariants.{Is, No}
 use Rattle.header.specs.declared.Header.{Header}
 
 -- A kind, from its numbers.
-pub kind_back : (kind : Kind) → kind_in (kind_number kind) (low_of kind) (high_of kind) ≡ Is kind
+pub kind_back : (kind : Kind) → kind_in (kind_number kind) (low_of kind) (high_of kind) ≡ Some kind
 unfolding kind_in
 kind_back Msg = refl
 kind_back Nomsg = refl
@@ -68,14 +70,10 @@ full_of h rs ws ps r w p = record {
   reply = omega (arith, length-map h.reply.segments (segment.the_type).to);
 }
 
--- Four words, one by one.
-four_of : (l : List ℕ) → length l ≡ 4 → l ≡ get_or l 0 0 ∷ get_or l 1 0 ∷ get_or l 2 0 ∷ get_or l 3 0 ∷ []
-four_of (a ∷ b ∷ c ∷ d ∷ []) e = refl
-four_of [] e = absurd (omega arith)
-four_of (a ∷ []) e = absurd (omega arith)
-four_of (a ∷ b ∷ []) e = absurd (omega arith)
-four_of (a ∷ b ∷ c ∷ []) e = absurd (omega arith)
-four_of (a ∷ b ∷ c ∷ d ∷ f ∷ l) e = absurd (omega arith)
+-- What is written over a part is stored there.
+put_mid_stored : (i n : ℕ) (l v : List ℕ) → length v ≡ n → i + n ≤ length l → put_mid i n l v ≡ stored l i v
+unfolding stored
+put_mid_stored i n l v e h = rw (drop-drop n i l, sets-eq v l i (omega arith), e, append_assoc)
 
 module _ (h : Header) (full : Full h) where
   abbrev one : List ℕ
@@ -133,20 +131,22 @@ module _ (h : Header) (full : Full h) where
       rw (before_counts, drop_at ((one ++ two) ++ three) (h.writes.counts ++ numbers h) 224 long) (take_at h.writes.counts (numbers h) 4 full.counts)
 
   -- Words that hold nothing, with the parts of a header stored into them one behind the other.
-  pub words_made : (flag kind low high : ℕ) (a b c d : List ℕ) → flag ≡ flag_number h.reply.present → kind ≡ kind_number h.kind → low ≡ low_of h.kind → high ≡ high_of h.kind →
-      a ≡ stored (replicate 238 0) 0 one → b ≡ stored a 96 two → c ≡ stored b 160 three →
-      d ≡ stored c 224 (get_or h.writes.counts 0 0 ∷ get_or h.writes.counts 1 0 ∷ get_or h.writes.counts 2 0 ∷ get_or h.writes.counts 3 0
-      ∷ h.reads.count ∷ h.writes.chunks ∷ flag ∷ h.reply.count ∷ kind ∷ low ∷ high ∷ h.xid ∷ h.credit ∷ []) → d ≡ header_words h
-  words_made flag kind low high a b c d flag_is kind_is low-is high_is p q r s =
+  pub words_made : (flag kind low high : ℕ) (a b c d counts all : List ℕ) → flag ≡ flag_number h.reply.present → kind ≡ kind_number h.kind → low ≡ low_of h.kind → high ≡ high_of h.kind →
+      a ≡ stored (replicate 238 0) 0 one → b ≡ stored a 96 two → c ≡ stored b 160 three → counts ≡ h.writes.counts → d ≡ put_mid 224 4 c counts →
+      all ≡ stored d 228 (h.reads.count ∷ h.writes.chunks ∷ flag ∷ h.reply.count ∷ kind ∷ low ∷ high ∷ h.xid ∷ h.credit ∷ []) → all ≡ header_words h
+  words_made flag kind low high a b c d counts all flag_is kind_is low-is high_is p q r same t s =
       let nine : List ℕ = h.reads.count ∷ h.writes.chunks ∷ flag_number h.reply.present ∷ h.reply.count ∷ kind_number h.kind ∷ low_of h.kind ∷ high_of h.kind ∷ h.xid ∷ h.credit ∷ [] in
       let lists : List ℕ = (one ++ two) ++ three in
-      let last : d ≡ stored c 224 (h.writes.counts ++ nine) = s ∙ rw (flag_is, kind_is, low-is, high_is) (ap (λ (l : List ℕ). stored c 224 (l ++ nine)) (sym (four_of h.writes.counts full.counts))) in
       let before : length (one ++ two) ≡ 160 = rw (length-append, one_long, two_long) in
       let long : length lists ≡ 224 = rw (length-append, before, three_long) in
-      let whole : length (lists ++ (h.writes.counts ++ nine)) ≡ 237 = rw (length-append, long, length-append, full.counts) in
-      let all : d ≡ stored (replicate 238 0) 0 (lists ++ (h.writes.counts ++ nine)) =
-      then _ _ _ 0 224 lists _ (then _ _ _ 0 160 (one ++ two) three (then _ _ _ 0 96 one two p q (rw (zero-add, one_long))) r (rw (zero-add, before))) last (rw (zero-add, long)) in
-      all ∙ stored_front (replicate 238 0) _ (rw whole (omega arith)) ∙ rw (whole, before_counts) (simp append_assoc)
+      let counted : length (lists ++ h.writes.counts) ≡ 228 = rw (length-append, long, full.counts) in
+      let whole : length ((lists ++ h.writes.counts) ++ nine) ≡ 237 = rw (length-append, counted) in
+      let listed : c ≡ stored (replicate 238 0) 0 lists = then _ _ _ 0 160 (one ++ two) three (then _ _ _ 0 96 one two p q (rw (zero-add, one_long))) r (rw (zero-add, before)) in
+      let room : 228 ≤ length c = rw (listed, length_stored, length-replicate) (omega arith) in
+      let fourth : d ≡ stored c 224 h.writes.counts = t ∙ rw same (put_mid_stored 224 4 c h.writes.counts full.counts room) in
+      let numbered : all ≡ stored d 228 nine = s ∙ rw (flag_is, kind_is, low-is, high_is) in
+      then _ _ _ 0 228 (lists ++ h.writes.counts) nine (then _ _ _ 0 224 lists h.writes.counts listed fourth (rw (zero-add, long))) numbered (rw (zero-add, counted))
+      ∙ stored_front (replicate 238 0) _ (rw whole (omega arith)) ∙ rw (whole, before_counts) (simp append_assoc)
 
   -- The words of a header hold it.
   pub header_back : header_in (header_words h) ≡ some h
@@ -174,40 +174,31 @@ module _ (h : Header) (full : Full h) where
 
 -- The header that words hold, by the kind that they name.
 module _ (w : List ℕ) (h : Header) (is : header_in w ≡ some h) where
-  pub none_held : kind_in (get_or w 232 0) (get_or w 233 0) (get_or w 234 0) ≡ No → ⊥
+  pub none_held : kind_in (get_or w 232 0) (get_or w 233 0) (get_or w 234 0) ≡ None → ⊥
   unfolding header_in
   none_held e = let z : ◌≡◌ {A = ℕ} 0 1 = let q : none ≡ some h = rw e at is in cc in omega arith
 
-  pub held : (kind : Kind) → kind_in (get_or w 232 0) (get_or w 233 0) (get_or w 234 0) ≡ Is kind → header_as w kind (eqb (get_or w 230 0) 1) ≡ h
+  pub held : (kind : Kind) → kind_in (get_or w 232 0) (get_or w 233 0) (get_or w 234 0) ≡ Some kind → header_as w kind (eqb (get_or w 230 0) 1) ≡ h
   unfolding header_in
   held kind e = go (leb (get_or w 230 0) 1) (rw e at is)
     where
-      go : (fits : Bool) → header_found w (Is kind) fits ≡ some h → header_as w kind (eqb (get_or w 230 0) 1) ≡ h
+      go : (fits : Bool) → header_found w (Some kind) fits ≡ some h → header_as w kind (eqb (get_or w 230 0) 1) ≡ h
       go false q = absurd (let z : ◌≡◌ {A = ℕ} 0 1 = cc in omega arith)
       go true q = cc
 
 -- The counts of the write chunks, one by one.
 pub counts_in_lem : (w : List ℕ) → length w ≡ 238 → get_or w 224 0 ∷ get_or w 225 0 ∷ get_or w 226 0 ∷ get_or w 227 0 ∷ [] ≡ take 4 (drop 224 w)
-counts_in_lem w long =
-    let at_drop : (j : ℕ) → get_or (drop 224 w) j 0 ≡ get_or w (224 + j) 0 = λ j. get_or-drop 224 w j 0 in
-    rw (← (at_drop 0), ← (at_drop 1), ← (at_drop 2), ← (at_drop 3)) (four (drop 224 w) (rw (length-drop, long) (omega arith)))
-  where
-    four : (l : List ℕ) → 4 ≤ length l → get_or l 0 0 ∷ get_or l 1 0 ∷ get_or l 2 0 ∷ get_or l 3 0 ∷ [] ≡ take 4 l
-    four [] h = absurd (omega arith)
-    four (a ∷ []) h = absurd (omega arith)
-    four (a ∷ b ∷ []) h = absurd (omega arith)
-    four (a ∷ b ∷ c ∷ []) h = absurd (omega arith)
-    four (a ∷ b ∷ c ∷ d ∷ l) h = refl
+counts_in_lem w long = rw (drop-cons w 224 0 (omega arith), drop-cons w 225 0 (omega arith), drop-cons w 226 0 (omega arith), drop-cons w 227 0 (omega arith))
 
 -- The header that words hold: none where its kind or its flag is unknown.
-pub header_known : (w : List ℕ) (kind : Kind) → kind_in (get_or w kind_at 0) (get_or w low_at 0) (get_or w high_at 0) ≡ Is kind → get_or w reply_present_at 0 ≤ 1 → header_in w ≡ some (header_as w kind (eqb (get_or w reply_present_at 0) 1))
+pub header_known : (w : List ℕ) (kind : Kind) → kind_in (get_or w kind_at 0) (get_or w low_at 0) (get_or w high_at 0) ≡ Some kind → get_or w reply_present_at 0 ≤ 1 → header_in w ≡ some (header_as w kind (eqb (get_or w reply_present_at 0) 1))
 unfolding header_in
 header_known w kind e h = rw (e, le-leb _ _ h)
 
-pub kind_unknown : (w : List ℕ) → kind_in (get_or w kind_at 0) (get_or w low_at 0) (get_or w high_at 0) ≡ No → header_in w ≡ none
+pub kind_unknown : (w : List ℕ) → kind_in (get_or w kind_at 0) (get_or w low_at 0) (get_or w high_at 0) ≡ None → header_in w ≡ none
 unfolding header_in
 kind_unknown w e = rw e
 
-pub flag_unknown : (w : List ℕ) (kind : Kind) → kind_in (get_or w kind_at 0) (get_or w low_at 0) (get_or w high_at 0) ≡ Is kind → 1 < get_or w reply_present_at 0 → header_in w ≡ none
+pub flag_unknown : (w : List ℕ) (kind : Kind) → kind_in (get_or w kind_at 0) (get_or w low_at 0) (get_or w high_at 0) ≡ Some kind → 1 < get_or w reply_present_at 0 → header_in w ≡ none
 unfolding header_in
 flag_unknown w kind e h = rw (e, lt-leb _ _ h)

@@ -1,14 +1,12 @@
 -- A header as the words that a caller holds and lends.
-use Rattle.std.specs.Prelude.{ℕ, Bool, true, false, cond, List, [], ◌∷◌, ◌++◌, get_or, take, drop, leb, eqb}
-use Rattle.std.proofs.Math.Option.{Option, none, some}
+use Rattle.std.specs.Prelude.{ℕ, Bool, true, false, cond, List, [], ◌∷◌, ◌++◌, get_or, take, drop, leb, eqb, Option, Some, None}
+use Rattle.std.proofs.Math.Option as maybe
 use Rattle.wire.specs.Words.{flag_number}
 use Rattle.chunk_lists.specs.Lists.{max_write_chunks}
 use Rattle.chunk_lists.specs.Words.{reads_in, reads_words, segments_in, segments_words}
 use Rattle.header.specs.declared.Kind.{Kind}
 use Rattle.header.specs.declared.Kind.TheVariants.{Msg, Nomsg, Error}
 use Rattle.header.specs.declared.ErrorKind.TheVariants.{Version, Chunk}
-use Rattle.header.specs.declared.Known.{Known}
-use Rattle.header.specs.declared.Known.TheVariants.{Is, No}
 use Rattle.header.specs.declared.Header.{Header}
 
 -- Where each part stands: the places of the read list first, then those of the write list and of the reply chunk, then the counts of the write chunks, and the numbers. The last of the 238 words is reserved: zero in what a call makes, ignored in what it is given.
@@ -78,13 +76,13 @@ header_words h =
     ∷ kind_number h.kind ∷ low_of h.kind ∷ high_of h.kind ∷ h.xid ∷ h.credit ∷ 0 ∷ []))))
 
 -- The kind that a number names, where there is one. The two numbers beside it count for a version error alone.
-unfoldable pub kind_in : ℕ → ℕ → ℕ → Known
+unfoldable pub kind_in : ℕ → ℕ → ℕ → Option Kind
 kind_in kind low high =
-    cond (eqb kind 0) (Is Msg)
-    (cond (eqb kind 1) (Is Nomsg)
-    (cond (eqb kind 2) (Is (Error (Version low high)))
-    (cond (eqb kind 3) (Is (Error Chunk))
-    No)))
+    cond (eqb kind 0) (Some Msg)
+    (cond (eqb kind 1) (Some Nomsg)
+    (cond (eqb kind 2) (Some (Error (Version low high)))
+    (cond (eqb kind 3) (Some (Error Chunk))
+    None)))
 
 -- How many segments each write chunk has.
 abbrev pub counts_in : List ℕ → List ℕ
@@ -102,10 +100,10 @@ header_as w kind present = record {
 }
 
 -- The header that words hold; none where the kind or the flag is a number that stands for nothing.
-abbrev pub header_found : List ℕ → Known → Bool → Option Header
-header_found w No fits = none
-header_found w (Is kind) false = none
-header_found w (Is kind) true = some (header_as w kind (eqb (get_or w reply_present_at 0) 1))
+abbrev pub header_found : List ℕ → Option Kind → Bool → maybe.Option Header
+header_found w None fits = maybe.none
+header_found w (Some kind) false = maybe.none
+header_found w (Some kind) true = maybe.some (header_as w kind (eqb (get_or w reply_present_at 0) 1))
 
-unfoldable pub header_in : List ℕ → Option Header
+unfoldable pub header_in : List ℕ → maybe.Option Header
 header_in w = header_found w (kind_in (get_or w kind_at 0) (get_or w low_at 0) (get_or w high_at 0)) (leb (get_or w reply_present_at 0) 1)

@@ -3,9 +3,10 @@
 
 ghost use Rattle.std.specs.Prelude.{◌≡◌, List, ℕ, length, take};
 ghost use Rattle.std.proofs.Math.Option.{some};
-ghost use Rattle.header.specs.Limits.{total, within_limits};
+ghost use Rattle.header.specs.Limits.{total, within_limits, keeps_limits};
 ghost use Rattle.header.specs.Content.{header_of, nothing};
 ghost use Rattle.header.specs.Words.{kind_number, low_of, high_of, kind_in, counts_in, header_in, header_words};
+ghost use Rattle.header.specs.Internal.Lent.{header_lent, LentFrom};
 
 use chunk_lists::{ReadList, ReplyChunk, WriteList};
 use wire::{ReadSegment, Segment};
@@ -24,6 +25,7 @@ pub const FIXED_BYTES: usize = PROCEDURE_AT + wire::WORD_BYTES;
 pub const VERSION: u32 = 1;
 
 // "Procedures: 0 MSG, 1 NOMSG, 2 MSGP, 3 DONE, 4 ERROR."
+// Stays: the numbers of the wire, and so the error codes below; past the reader a kind is a Kind.
 pub const PROCEDURE_MSG: u32 = 0;
 
 pub const PROCEDURE_NOMSG: u32 = 1;
@@ -65,13 +67,6 @@ pub enum Kind {
     Error(ErrorKind),
 }
 
-// A kind that a number names, or none.
-#[derive(Clone, Copy)]
-pub enum Known {
-    Is(Kind),
-    No,
-}
-
 #[derive(Clone, Copy)]
 pub struct Header {
     pub reads: ReadList,
@@ -108,6 +103,7 @@ pub const XID_WORD_AT: usize = HIGH_WORD_AT + 1;
 pub const CREDIT_WORD_AT: usize = XID_WORD_AT + 1;
 
 // A kind as a number, where a caller lends it.
+// Stays: the numbers of the C interface (eos_header's kind); past kind_in a kind is a Kind.
 pub const KIND_MSG: u32 = 0;
 
 pub const KIND_NOMSG: u32 = 1;
@@ -117,15 +113,16 @@ pub const KIND_VERSION_ERROR: u32 = 2;
 pub const KIND_CHUNK_ERROR: u32 = 3;
 
 // The kind that a number names; low and high count for a version error alone.
-pub fn kind_in(number: u32, low: u32, high: u32) -> Known
+#[tactic(auto, unfolding(crate::specs::Words::kind_in))]
+pub fn kind_in(number: u32, low: u32, high: u32) -> Option<Kind>
     ensures { result ≡ kind_in number low high }
 {
     match number {
-        KIND_MSG => Known::Is(Kind::Msg),
-        KIND_NOMSG => Known::Is(Kind::Nomsg),
-        KIND_VERSION_ERROR => Known::Is(Kind::Error(ErrorKind::Version(low, high))),
-        KIND_CHUNK_ERROR => Known::Is(Kind::Error(ErrorKind::Chunk)),
-        _ => Known::No,
+        KIND_MSG => Some(Kind::Msg),
+        KIND_NOMSG => Some(Kind::Nomsg),
+        KIND_VERSION_ERROR => Some(Kind::Error(ErrorKind::Version(low, high))),
+        KIND_CHUNK_ERROR => Some(Kind::Error(ErrorKind::Chunk)),
+        _ => None,
     }
 }
 
@@ -136,24 +133,19 @@ pub fn kind_number(kind: Kind) -> u32
     match kind {
         Kind::Msg => KIND_MSG,
         Kind::Nomsg => KIND_NOMSG,
-        Kind::Error(e) => match e {
-            ErrorKind::Version(_, _) => KIND_VERSION_ERROR,
-            ErrorKind::Chunk => KIND_CHUNK_ERROR,
-        },
+        Kind::Error(ErrorKind::Version(_, _)) => KIND_VERSION_ERROR,
+        Kind::Error(ErrorKind::Chunk) => KIND_CHUNK_ERROR,
     }
 }
 
 // The two numbers of a version error; zero for any other kind.
+// Stays: two functions, as the definitions `low_of` and `high_of` that the laws of the words cite; one answering a pair is no shorter where they are stored.
 pub fn low_of(kind: Kind) -> u32
     ensures { result ≡ low_of kind }
 {
     match kind {
-        Kind::Msg => 0,
-        Kind::Nomsg => 0,
-        Kind::Error(e) => match e {
-            ErrorKind::Version(low, _) => low,
-            ErrorKind::Chunk => 0,
-        },
+        Kind::Error(ErrorKind::Version(low, _)) => low,
+        _ => 0,
     }
 }
 
@@ -161,28 +153,25 @@ pub fn high_of(kind: Kind) -> u32
     ensures { result ≡ high_of kind }
 {
     match kind {
-        Kind::Msg => 0,
-        Kind::Nomsg => 0,
-        Kind::Error(e) => match e {
-            ErrorKind::Version(_, high) => high,
-            ErrorKind::Chunk => 0,
-        },
+        Kind::Error(ErrorKind::Version(_, high)) => high,
+        _ => 0,
     }
 }
 
 // The segments of the first n chunks, of four at most, in 64 bits, so that no counts wrap.
-pub fn total_count(words: &[u32], n: usize) -> usize
-    requires { length words.now ≡ 238 }
+pub fn total_count(words: &[u32; 238], n: usize) -> usize
     ensures { result ≡ total (take n (counts_in words.now)) }
 {
-    let mut sum = 0;
-    for k in 0..wire::smaller(n, chunk_lists::MAX_WRITE_CHUNKS) {
-        sum += words[WRITE_COUNTS_AT + k] as usize;
-    }
-    sum
+    words[WRITE_COUNTS_AT..READ_COUNT_AT]
+        .iter()
+        .take(n)
+        .map(|&count| count as usize)
+        .sum()
 }
 
 // Whether the counts of a header are within its limits; `segments` is the sum of those of its write chunks.
+// Stays: present beside replies, as in README's Header and in the words of eos_header.
+#[tactic(auto, unfolding(crate::specs::Limits::within_limits))]
 pub fn within_limits(
     reads: usize,
     chunks: usize,
@@ -192,22 +181,18 @@ pub fn within_limits(
 ) -> bool
     ensures { (counts : List ℕ) → segments ≡ total (take chunks counts) → result ≡ within_limits reads chunks counts present replies }
 {
-    if chunk_lists::MAX_READ_SEGMENTS < reads {
-        return false;
-    }
-    if chunk_lists::MAX_WRITE_CHUNKS < chunks {
-        return false;
-    }
-    if chunk_lists::MAX_WRITE_SEGMENTS < segments {
-        return false;
-    }
-    if present {
-        return replies <= chunk_lists::MAX_REPLY_SEGMENTS;
-    }
-    replies == 0
+    reads <= chunk_lists::MAX_READ_SEGMENTS
+        && chunks <= chunk_lists::MAX_WRITE_CHUNKS
+        && segments <= chunk_lists::MAX_WRITE_SEGMENTS
+        && if present {
+            replies <= chunk_lists::MAX_REPLY_SEGMENTS
+        } else {
+            replies == 0
+        }
 }
 
 // An all-zero header of kind MSG without a reply chunk.
+#[tactic(auto, unfolding(crate::specs::Content::header_of, wire::specs::Wire::joined))]
 fn nothing() -> Header
     ensures { result ≡ header_of nothing }
 {
@@ -245,29 +230,25 @@ fn nothing() -> Header
 pub fn header_of(words: &[u32; 238]) -> Header
     ensures { (h : Header) → header_in words.now ≡ some h → result ≡ h }
 {
-    let known = kind_in(words[KIND_WORD_AT], words[LOW_WORD_AT], words[HIGH_WORD_AT]);
-    let Known::Is(kind) = known else {
+    let Some(kind) = kind_in(words[KIND_WORD_AT], words[LOW_WORD_AT], words[HIGH_WORD_AT]) else {
         return nothing();
     };
+    let mut counts = [0; 4];
+    counts.copy_from_slice(&words[WRITE_COUNTS_AT..READ_COUNT_AT]);
     Header {
         reads: ReadList {
-            segments: chunk_lists::read_list_in(words),
+            segments: chunk_lists::segments_in(words, 0),
             count: words[READ_COUNT_AT],
         },
         writes: WriteList {
             segments: chunk_lists::segments_in(words, WRITES_AT),
-            counts: [
-                words[WRITE_COUNTS_AT],
-                words[WRITE_COUNTS_AT + 1],
-                words[WRITE_COUNTS_AT + 2],
-                words[WRITE_COUNTS_AT + 3],
-            ],
+            counts,
             chunks: words[WRITE_CHUNKS_AT],
         },
         reply: ReplyChunk {
             segments: chunk_lists::segments_in(words, REPLY_AT),
             count: words[REPLY_COUNT_AT],
-            present: words[REPLY_PRESENT_AT] == 1,
+            present: words[REPLY_PRESENT_AT] == wire::FLAG_SET,
         },
         kind,
         xid: words[XID_WORD_AT],
@@ -275,33 +256,63 @@ pub fn header_of(words: &[u32; 238]) -> Header
     }
 }
 
+// A header in words that a caller lends, its kind and whether it has a reply chunk known.
+#[derive(Clone, Copy)]
+pub struct Lent<'a> {
+    pub words: &'a [u32; 238],
+    pub kind: Kind,
+    pub present: bool,
+}
+
+// The header in lent words; none where the kind or the flag is a number that stands for nothing.
+#[tactic(auto, unfolding(crate::specs::Words::header_in))]
+pub fn header_in(words: &[u32; 238]) -> Option<Lent<'_>>
+    ensures { LentFrom words.now result }
+{
+    let kind = kind_in(words[KIND_WORD_AT], words[LOW_WORD_AT], words[HIGH_WORD_AT])?;
+    let flag = words[REPLY_PRESENT_AT];
+    if wire::FLAG_SET < flag {
+        return None;
+    }
+    Some(Lent {
+        words,
+        kind,
+        present: flag == wire::FLAG_SET,
+    })
+}
+
+impl Lent<'_> {
+    // Whether the counts are within their limits.
+    pub fn keeps_limits(self) -> bool
+        ensures { result ≡ keeps_limits (header_lent self.entry) }
+    {
+        let chunks = self.words[WRITE_CHUNKS_AT] as usize;
+        within_limits(
+            self.words[READ_COUNT_AT] as usize,
+            chunks,
+            total_count(self.words, chunks),
+            self.present,
+            self.words[REPLY_COUNT_AT] as usize,
+        )
+    }
+}
+
 // The words of a header.
 pub fn words_of(h: Header) -> [u32; 238]
     ensures { result ≡ header_words h }
 {
-    let reads = h.reads;
-    let writes = h.writes;
-    let reply = h.reply;
-    let kind = h.kind;
-    let entries = reads.segments;
-    let chunks = writes.segments;
-    let counts = writes.counts;
-    let replies = reply.segments;
-    let mut words = [0u32; 238];
-    chunk_lists::store_read_list(&mut words, entries);
-    chunk_lists::store_segments(&mut words, WRITES_AT, chunks);
-    chunk_lists::store_segments(&mut words, REPLY_AT, replies);
-    words[WRITE_COUNTS_AT] = counts[0];
-    words[WRITE_COUNTS_AT + 1] = counts[1];
-    words[WRITE_COUNTS_AT + 2] = counts[2];
-    words[WRITE_COUNTS_AT + 3] = counts[3];
-    words[READ_COUNT_AT] = reads.count;
-    words[WRITE_CHUNKS_AT] = writes.chunks;
-    words[REPLY_PRESENT_AT] = wire::flag_number(reply.present);
-    words[REPLY_COUNT_AT] = reply.count;
-    words[KIND_WORD_AT] = kind_number(kind);
-    words[LOW_WORD_AT] = low_of(kind);
-    words[HIGH_WORD_AT] = high_of(kind);
+    let mut words = [0; 238];
+    chunk_lists::store_segments(&mut words, 0, h.reads.segments);
+    chunk_lists::store_segments(&mut words, WRITES_AT, h.writes.segments);
+    chunk_lists::store_segments(&mut words, REPLY_AT, h.reply.segments);
+    words[WRITE_COUNTS_AT..READ_COUNT_AT].copy_from_slice(&h.writes.counts);
+    words[READ_COUNT_AT] = h.reads.count;
+    words[WRITE_CHUNKS_AT] = h.writes.chunks;
+    words[REPLY_PRESENT_AT] = u32::from(h.reply.present);
+    words[REPLY_COUNT_AT] = h.reply.count;
+    words[KIND_WORD_AT] = kind_number(h.kind);
+    words[LOW_WORD_AT] = low_of(h.kind);
+    words[HIGH_WORD_AT] = high_of(h.kind);
     words[XID_WORD_AT] = h.xid;
     words[CREDIT_WORD_AT] = h.credit;
     words

@@ -1,31 +1,20 @@
 -- `header::total_count` meets its contract.
-use mathlib.Core.Path.{refl, ap}
-use Prim.Native.Nat.{◌+◌}
-use native.Mathlib.Omega.{arith}
-use lib.ListN.{get_or}
-use borrow.Author.Rules.{rules}
-use Rattle.header.specs.Limits.{total}
+use Rattle.std.proofs.Common.{rules, arith, tests, ◌∙◌, take, ◌^◌}
+use Rattle.std.proofs.lemmas.Iterator.{YieldsList-from_slice, YieldsList-from_take, YieldsList-from_map}
+use Rattle.std.proofs.lemmas.Iterator.Adapters.{fits_from_length, at_most_from_yields_List}
+use Rattle.std.proofs.lemmas.Iterator.Consumers.{YieldsList-at, sum_by_from_yields_List}
+use Rattle.header.proofs.Limits.{total_is_sum, counts_few}
 use Rattle.header.specs.Words.{counts_in}
-use Rattle.header.proofs.Limits.{total_next, take_most, counts_long, count_here}
 use Rattle.header.proofs.total_count.Goals as goal
 
-pub loop-k-init : goal.loop-k-init
-unfolding total
-loop-k-init c = (search rules, refl, search rules)
-
-pub overflow_cast-sum : goal.overflow_cast-sum
-overflow_cast-sum c = let small = c.type_inv.words (224 + c.loop-k.k) in search rules
-
-pub overflow_add-sum-in-loop-k : goal.overflow_add-sum-in-loop-k
-overflow_add-sum-in-loop-k c = let small = c.type_inv.words (224 + c.loop-k.k) in omega arith
-
-pub loop-k-preserved : goal.loop-k-preserved
-loop-k-preserved c = let w = c.args.words.now in
-    let k = c.loop-k.k in
-    let small = c.type_inv.words (224 + k) in
-    (search rules, rw (total_next (counts_in w) k (rw (counts_long w c.requires) (omega arith)), count_here w k (omega arith)) (ap (λ t. t + get_or w (224 + k) 0) c.loop-k.invariant.1), omega arith)
+pub sum-requires-clause-fits : goal.sum-requires-clause-fits
+sum-requires-clause-fits c =
+    let w = c.args.words.now in
+    fits_from_length _ _ 4 (2 ^ 64) (at_most_from_yields_List (YieldsList-at c.map.ensures.source (YieldsList-from_take c.args.n (YieldsList-at c.take.ensures.source (YieldsList-from_slice (counts_in w) cc)) c.take.ensures.count)) (counts_few c.args.n w)) c.map.ensures.closure (omega arith) (λ x r q k. search rules)
 
 pub returns : goal.returns
-returns c = let a = c.args in
-    let long = counts_long a.words.now c.requires in
-    rw (take_most a.n c.loop-k.k (counts_in a.words.now) (omega arith)) c.loop-k.invariant.1
+returns c =
+    let w = c.args.words.now in
+    sum_by_from_yields_List _ (take c.args.n (counts_in w)) c.map.result _ c.sum.ensures.ran
+    (YieldsList-from_map _ (λ x. x) (YieldsList-at c.map.ensures.source (YieldsList-from_take c.args.n (YieldsList-at c.take.ensures.source (YieldsList-from_slice (counts_in w) (cc))) c.take.ensures.count)) c.map.ensures.closure (λ x r q k. search (rules, tests)))
+    ∙ total_is_sum _
