@@ -21,7 +21,8 @@ use Rattle.wire.proofs.Words.{read_segment_words_lem, segment_words_lem}
 use Rattle.chunk_lists.proofs.Words.{length_reads_words, length_segments_words}
 use Rattle.header.specs.Content.{Content, padded, reply_chunk_of, header_of, nothing}
 use Rattle.reader.specs.Frame.{read_frame, read_answer, read_number, read_words}
-use Rattle.reader.specs.Internal.Shape.{is_present, replies}
+use Rattle.std.specs.Option.{unwrap_or, is_some}
+use Rattle.reader.proofs.FrameParts.{is_present, replies}
 use Rattle.header.specs.Words.{kind_number, low_of, high_of, header_words, header_in}
 use Rattle.header.specs.declared.Kind.{Kind}
 use Rattle.header.specs.declared.Kind.TheVariants.{Msg}
@@ -120,20 +121,20 @@ content_words kind xid credit reads writes none = refl
 content_words kind xid credit reads writes (some l) = refl
 
 -- A frame that was checked: the words after its numbers and its three lists were stored.
-pub words_read : (s : List ℕ) (shape : Shape) → Found s shape → (k low high flag x y : ℕ) (before a b after : List ℕ) →
-    k ≡ kind_number shape.kind → low ≡ low_of shape.kind → high ≡ high_of shape.kind → flag ≡ flag_number shape.present → x ≡ word_at s 0 → y ≡ word_at s 8 →
-    a ≡ stored (zeros 96 ++ (zeros 64 ++ (zeros 64 ++ (zeros 4 ++ (shape.reads ∷ shape.chunks ∷ flag ∷ shape.replies ∷ k ∷ low ∷ high ∷ x ∷ y ∷ 0 ∷ []))))) 0 (reads_words (each 24 marked_segment_at shape.reads (take (length s - 16) (drop 16 s)))) →
+pub words_read : (s : List ℕ) (shape : Shape) → Found s shape → (k low high flag m x y : ℕ) (before a b after : List ℕ) →
+    k ≡ kind_number shape.kind → low ≡ low_of shape.kind → high ≡ high_of shape.kind → flag ≡ flag_number (is_some shape.reply) → m ≡ unwrap_or shape.reply 0 → x ≡ word_at s 0 → y ≡ word_at s 8 →
+    a ≡ stored (zeros 96 ++ (zeros 64 ++ (zeros 64 ++ (zeros 4 ++ (shape.reads ∷ shape.chunks ∷ flag ∷ m ∷ k ∷ low ∷ high ∷ x ∷ y ∷ 0 ∷ []))))) 0 (reads_words (each 24 marked_segment_at shape.reads (take (length s - 16) (drop 16 s)))) →
     b ≡ with_writes a 96 224 (chunks_at shape.chunks (take (length s - (20 + shape.reads * 24)) (drop (20 + shape.reads * 24) s))) →
-    after ≡ stored b 160 (segments_words (each 16 (λ t. segment_at t 0) shape.replies (drop (shape.end - shape.replies * 16) s))) →
+    after ≡ stored b 160 (segments_words (each 16 (λ t. segment_at t 0) m (drop (shape.end - m * 16) s))) →
     (0 ≡ read_number (read_frame s)) × (after ≡ read_words (read_frame s) before)
-words_read s shape f k low high flag x y before a b after kind_is low-is high_is flag_is xid credit reads writes reply =
+words_read s shape f k low high flag m x y before a b after kind_is low-is high_is flag_is many xid credit reads writes reply =
     let c = f.content in
     let l = f.parts in
     let placed = lists_placed c.reads c.writes (reply_segments_lem c.reply)
     (length c.reads ∷ length c.writes ∷ flag_number (is_present c.reply) ∷ replies c.reply ∷ kind_number c.kind ∷ low_of c.kind ∷ high_of c.kind ∷ c.xid ∷ c.credit ∷ 0 ∷ [])
     l.reads_few l.writes_few l.writes_within (reply_few c.reply l.reply.few) in
     let words = placed ∙ content_words c.kind c.xid c.credit c.reads c.writes c.reply in
-    (rw f.read, reply ∙ rw (writes, reads, kind_is, low-is, high_is, flag_is, xid, credit, part_from 16 s, part_from (20 + shape.reads * 24) s, f.shape_is, f.read, ← l.reads_are, ← l.writes_are, ← l.reply.are, ← l.xid, ← l.credit) words)
+    (rw f.read, reply ∙ rw (writes, reads, kind_is, low-is, high_is, flag_is, many, xid, credit, part_from 16 s, part_from (20 + shape.reads * 24) s, f.shape_is, f.read, ← l.reads_are, ← l.writes_are, ← l.reply.are, ← l.xid, ← l.credit) words)
   where
     reply_few : (reply : Option (List Segment)) → replies reply ≤ 16 → length (reply_segments_lem reply) ≤ 16
     reply_few none h = omega arith

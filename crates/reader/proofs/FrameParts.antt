@@ -4,6 +4,7 @@ use mathlib.Core.Path.{◌≡◌, refl, sym, ap, subst, ◌∙◌}
 use mathlib.Core.Bool.{Bool, true, false, cond}
 use mathlib.Core.List.{List, [], ◌∷◌}
 use mathlib.Core.Option.{Option, none, some}
+use Rattle.std.specs.Prelude.{Result, Ok, Err}
 use Prim.Native.Nat.{ℕ, ◌+◌, ◌-◌, ◌*◌, ◌≤◌}
 use native.Mathlib.Omega.{arith}
 use borrow.Author.Tests.{leb-true}
@@ -11,8 +12,6 @@ use lib.ListN.{length, drop, length-drop}
 use lib.Seq.{drop-drop}
 use lib.Dec.{leb, eqb}
 use Rattle.wire.specs.Wire.{word_at, word_of, segment_at, joined}
-use Rattle.wire.specs.declared.Word.{Word}
-use Rattle.wire.specs.declared.Word.TheVariants as word
 use Rattle.wire.specs.declared.Segment.{Segment}
 use Rattle.wire.specs.declared.ReadSegment.{ReadSegment}
 use Rattle.chunk_lists.specs.Parsed.{Parsed, refused, done, each}
@@ -23,14 +22,21 @@ use Rattle.chunk_lists.proofs.ListSteps as laws
 use Rattle.chunk_lists.proofs.ListBytes.{reads_of, writes_of, reply_refused, reply_absent, reply_chunk_lem, ReadsAre, WritesAre, reads_aligned}
 use Rattle.header.specs.Content.{Content}
 use Rattle.reader.specs.Frame.{three_parts, error_content, error_body, nothing_behind, by_procedure, read_frame, payload_of}
-use Rattle.reader.specs.Internal.Shape.{replies, shape_of, frame_check}
+use Rattle.reader.specs.Internal.Shape.{reply_count, shape_of, frame_check}
+use Rattle.std.specs.Option.{unwrap_or, is_some}
 use Rattle.header.specs.declared.Kind.{Kind}
 use Rattle.header.specs.declared.Kind.TheVariants.{Msg, Nomsg}
 use Rattle.header.specs.declared.ErrorKind.{ErrorKind}
 use Rattle.header.specs.declared.ErrorKind.TheVariants as error
 use Rattle.reader.specs.declared.Shape.{Shape}
-use Rattle.reader.specs.declared.FrameCheck.TheVariants as walk
 use Rattle.reader.proofs.FrameChecks.{suffix}
+
+-- Whether there is a reply chunk, and how many segments it has.
+abbrev pub is_present : Option (List Segment) → Bool
+is_present reply = is_some (reply_count reply)
+
+abbrev pub replies : Option (List Segment) → ℕ
+replies reply = unwrap_or (reply_count reply) 0
 
 -- The segments of a reply chunk.
 abbrev pub reply_segments_lem : Option (List Segment) → List Segment
@@ -171,17 +177,17 @@ error_parts s c t long e = coded (word_of (drop 16 s)) refl e
         let same : t ≡ u = cc in
         rw (is, same) (bare_parts x s u end h fits rest)
 
-    upper : (low : ℕ) → 20 ≤ length s → (w : Word) → word_of (drop 8 (drop 16 s)) ≡ w →
+    upper : (low : ℕ) → 20 ≤ length s → (w : Result ℕ ℕ) → word_of (drop 8 (drop 16 s)) ≡ w →
         after_word w (λ high. done (error_content (error.Version low high) (word_at s 0) (word_at s 8)) (drop 12 (drop 16 s))) ≡ done c t → FrameParts s c t
-    upper low h (word.Refused n) r q = absurd (never q)
-    upper low h (word.Value high) r q =
+    upper low h (Err n) r q = absurd (never q)
+    upper low h (Ok high) r q =
         let room = word_room (drop 8 (drop 16 s)) high r in
         ended (error.Version low high) (drop 12 (drop 16 s)) 28 h (omega (arith, front, length-drop 8 (drop 16 s))) (drop-drop 12 16 s) q
 
-    lower : 20 ≤ length s → (w : Word) →
+    lower : 20 ≤ length s → (w : Result ℕ ℕ) →
         after_word w (λ low. after_word (word_of (drop 8 (drop 16 s))) (λ high. done (error_content (error.Version low high) (word_at s 0) (word_at s 8)) (drop 12 (drop 16 s)))) ≡ done c t → FrameParts s c t
-    lower h (word.Refused n) q = absurd (never q)
-    lower h (word.Value low) q = upper low h (word_of (drop 8 (drop 16 s))) refl q
+    lower h (Err n) q = absurd (never q)
+    lower h (Ok low) q = upper low h (word_of (drop 8 (drop 16 s))) refl q
 
     chosen : 20 ≤ length s → (first second : Bool) →
         cond first
@@ -191,12 +197,12 @@ error_parts s c t long e = coded (word_of (drop 16 s)) refl e
     chosen h false true q = ended error.Chunk (drop 4 (drop 16 s)) 20 h h (drop-drop 4 16 s) q
     chosen h false false q = absurd (never q)
 
-    coded : (w : Word) → word_of (drop 16 s) ≡ w →
+    coded : (w : Result ℕ ℕ) → word_of (drop 16 s) ≡ w →
         after_word w (λ code. cond (eqb code 1)
         (after_word (word_of (drop 4 (drop 16 s))) (λ low. after_word (word_of (drop 8 (drop 16 s))) (λ high. done (error_content (error.Version low high) (word_at s 0) (word_at s 8)) (drop 12 (drop 16 s)))))
         (cond (eqb code 2) (done (error_content error.Chunk (word_at s 0) (word_at s 8)) (drop 4 (drop 16 s))) (refused 10))) ≡ done c t → FrameParts s c t
-    coded (word.Refused n) r q = absurd (never q)
-    coded (word.Value code) r q =
+    coded (Err n) r q = absurd (never q)
+    coded (Ok code) r q =
         let room = word_room (drop 16 s) code r in
         chosen (omega (arith, front)) (eqb code 1) (eqb code 2) q
 
@@ -234,19 +240,19 @@ pub record Found (s : List ℕ) (shape : Shape) : Type 0 where
   pub shape_is : shape ≡ shape_of content (length s - length behind)
   pub parts : FrameParts s content behind
 
-pub found : (s : List ℕ) (shape : Shape) → frame_check (length s) (read_frame s) ≡ walk.Found shape → Found s shape
+pub found : (s : List ℕ) (shape : Shape) → frame_check (length s) (read_frame s) ≡ Ok shape → Found s shape
 unfolding frame_check
 found s shape e = go (read_frame s) refl e
   where
-    go : (p : Parsed Content) → read_frame s ≡ p → frame_check (length s) p ≡ walk.Found shape → Found s shape
+    go : (p : Parsed Content) → read_frame s ≡ p → frame_check (length s) p ≡ Ok shape → Found s shape
     go (refused n) r q = absurd (let z : ◌≡◌ {A = ℕ} 0 1 = cc in omega arith)
     go (done c t) r q = record { content = c; behind = t; read = r; shape_is = cc; parts = frame_parts s c t r }
 
-pub unfound : (s : List ℕ) (n : ℕ) → frame_check (length s) (read_frame s) ≡ walk.Refused n → read_frame s ≡ refused n
+pub unfound : (s : List ℕ) (n : ℕ) → frame_check (length s) (read_frame s) ≡ Err n → read_frame s ≡ refused n
 unfolding frame_check
 unfound s n e = go (read_frame s) e
   where
-    go : (p : Parsed Content) → frame_check (length s) p ≡ walk.Refused n → p ≡ refused n
+    go : (p : Parsed Content) → frame_check (length s) p ≡ Err n → p ≡ refused n
     go (refused k) q = cc
     go (done c t) q = absurd (let z : ◌≡◌ {A = ℕ} 0 1 = cc in omega arith)
 
@@ -279,15 +285,15 @@ pub record Bounds (s : List ℕ) (shape : Shape) : Type 0 where
   pub reads_few : shape.reads ≤ 16
   pub reads_long : 20 + shape.reads * 24 ≤ length s
   pub chunks_few : shape.chunks ≤ 4
-  pub replies_few : shape.replies ≤ 16
-  pub replies_long : shape.replies * 16 ≤ shape.end
+  pub replies_few : unwrap_or shape.reply 0 ≤ 16
+  pub replies_long : unwrap_or shape.reply 0 * 16 ≤ shape.end
   pub end_short : shape.end ≤ length s
 
 pub bounds : (s : List ℕ) (shape : Shape) → Found s shape → Bounds s shape
 bounds s shape f =
     let n = ap (λ (x : Shape). x.reads) f.shape_is in
     let m = ap (λ (x : Shape). x.chunks) f.shape_is in
-    let r = ap (λ (x : Shape). x.replies) f.shape_is in
+    let r = ap (λ (x : Shape). unwrap_or x.reply 0) f.shape_is in
     let e = ap (λ (x : Shape). x.end) f.shape_is in
     record {
       reads_few = omega (arith, f.parts.reads_few);

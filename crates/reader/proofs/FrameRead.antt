@@ -4,6 +4,7 @@ use mathlib.Core.Path.{◌≡◌, refl, sym, subst, ◌∙◌}
 use mathlib.Core.Bool.{Bool, true, false, cond}
 use mathlib.Core.List.{List, [], ◌∷◌, ◌++◌, append_assoc}
 use mathlib.Core.Option.{Option}
+use Rattle.std.specs.Prelude.{Result, Ok, Err}
 use Prim.Native.Nat.{ℕ, ◌+◌, ◌≤◌}
 use native.Mathlib.Omega.{arith}
 use borrow.Author.Tests.{leb-true, eqb-true}
@@ -25,8 +26,6 @@ use Rattle.header.specs.declared.ErrorKind.{ErrorKind}
 use Rattle.header.specs.declared.ErrorKind.TheVariants.{Version, Chunk}
 use Rattle.wire.specs.declared.Segment.{Segment}
 use Rattle.wire.specs.declared.ReadSegment.{ReadSegment}
-use Rattle.wire.specs.declared.Word.{Word}
-use Rattle.wire.specs.declared.Word.TheVariants as word
 use Rattle.header.proofs.Allowed.{Allowed, BareIfError, Behind}
 use Rattle.header.proofs.Longest.{header_most, allowed_limited}
 use Rattle.wire.proofs.WordBytes.{bytes_drop, word_fits, word_front}
@@ -88,15 +87,15 @@ three_parts_done kind xid credit s c t k x y b e =
     done_same (BodyRead kind xid credit s) _ c three.behind t three.then (parts_read kind xid credit s _ _ _ _ _ _ k x y reads writes reply)
 
 -- A word that was read, and what it decided.
-record WordRead {A : Type 0} (w : Word) (next : ℕ → Parsed A) (a : A) (t : List ℕ) : Type 0 where
+record WordRead {A : Type 0} (w : Result ℕ ℕ) (next : ℕ → Parsed A) (a : A) (t : List ℕ) : Type 0 where
   value : ℕ
-  there : w ≡ word.Value value
+  there : w ≡ Ok value
   onward : next value ≡ done a t
 
 -- What a word decided was decided by a word that was there.
-after_word_done : {A : Type 0} (w : Word) (next : ℕ → Parsed A) (a : A) (t : List ℕ) → after_word w next ≡ done a t → WordRead w next a t
-after_word_done (word.Refused n) next a t e = absurd (never e)
-after_word_done (word.Value x) next a t e = record { value = x; there = refl; onward = e }
+after_word_done : {A : Type 0} (w : Result ℕ ℕ) (next : ℕ → Parsed A) (a : A) (t : List ℕ) → after_word w next ≡ done a t → WordRead w next a t
+after_word_done (Err n) next a t e = absurd (never e)
+after_word_done (Ok x) next a t e = record { value = x; there = refl; onward = e }
 
 -- An ERROR header that was read.
 record ErrorRead (xid credit : ℕ) (s : List ℕ) (c : Content) (t : List ℕ) : Type 0 where

@@ -4,6 +4,7 @@ use mathlib.Core.Path.{◌≡◌, refl, sym, ◌∙◌}
 use mathlib.Core.Bool.{true}
 use mathlib.Core.List.{List, [], ◌∷◌, ◌++◌, append_assoc, map}
 use mathlib.Core.Option.{Option, none, some}
+use Rattle.std.specs.Prelude.{Ok}
 use Prim.Native.Nat.{ℕ, zero, suc, ◌+◌, ◌-◌, ◌*◌, ◌≤◌}
 use native.Mathlib.Omega.{arith}
 use borrow.Author.Tests.{le-leb}
@@ -30,12 +31,12 @@ use Rattle.header.proofs.Allowed.{ReplyAllowed, Allowed, BareIfError, Behind}
 use Rattle.wire.proofs.WordBytes.{join_bytes_lem, word_of_back, segment_back, read_segment_back, position_back, length_segment, length_read_segment, drop_word, drop_segment, drop_read_segment}
 
 -- A marker 0 is read as an end.
-pub marker_end : (r : List ℕ) → marker_of (word_bytes 0 ++ r) ≡ marker.End
+pub marker_end : (r : List ℕ) → marker_of (word_bytes 0 ++ r) ≡ Ok marker.End
 unfolding marker_of
 marker_end r = simp (word_of_back 0 r (omega arith))
 
 -- A marker 1 is read as an entry.
-pub marker_entry : (r : List ℕ) → marker_of (word_bytes 1 ++ r) ≡ marker.Entry
+pub marker_entry : (r : List ℕ) → marker_of (word_bytes 1 ++ r) ≡ Ok marker.Entry
 unfolding marker_of
 marker_entry r = simp (word_of_back 1 r (omega arith))
 

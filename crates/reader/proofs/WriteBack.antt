@@ -4,6 +4,7 @@ use mathlib.Core.Path.{◌≡◌, refl, sym, subst}
 use mathlib.Core.Bool.{Bool, true, false, cond}
 use mathlib.Core.List.{List, [], ◌∷◌, ◌++◌, append_assoc, map}
 use mathlib.Core.Option.{Option, none, some}
+use Rattle.std.specs.Prelude.{Result, Ok, Err}
 use Prim.Native.Nat.{ℕ, zero, suc, ◌+◌, ◌-◌, ◌*◌, ◌%◌, ◌≤◌}
 use native.Mathlib.Omega.{arith}
 use borrow.Author.Tests.{leb-true, eqb-true}
@@ -18,8 +19,6 @@ use Rattle.header.specs.Limits.{total}
 use Rattle.wire.specs.Fits.{AllBytes, Word32, All, SegmentFits, ReadSegmentFits}
 use Rattle.wire.specs.declared.Segment.{Segment}
 use Rattle.wire.specs.declared.ReadSegment.{ReadSegment}
-use Rattle.wire.specs.declared.Word.{Word}
-use Rattle.wire.specs.declared.Word.TheVariants as word
 use Rattle.chunk_lists.specs.declared.Marker.TheVariants as marker
 use Rattle.header.proofs.Allowed.{ReplyAllowed}
 use Rattle.reader.proofs.ReadBack.{read_entry_first, chunk_first}
@@ -42,11 +41,11 @@ bytes_behind u t s e b =
     subst AllBytes d (bytes_drop (length u) s b)
 
 -- A word that was there.
-pub word_of_front : (s : List ℕ) (x : ℕ) → AllBytes s → word_of s ≡ word.Value x → (word_bytes x ++ drop 4 s ≡ s) × Word32 x
+pub word_of_front : (s : List ℕ) (x : ℕ) → AllBytes s → word_of s ≡ Ok x → (word_bytes x ++ drop 4 s ≡ s) × Word32 x
 unfolding word_of
 word_of_front s x b e = go (leb 4 (length s)) refl e
   where
-    go : (holds : Bool) → leb 4 (length s) ≡ holds → cond holds (word.Value (word_at s 0)) (word.Refused 5) ≡ word.Value x → (word_bytes x ++ drop 4 s ≡ s) × Word32 x
+    go : (holds : Bool) → leb 4 (length s) ≡ holds → cond {A = Result ℕ ℕ} holds (Ok (word_at s 0)) (Err 5) ≡ Ok x → (word_bytes x ++ drop 4 s ≡ s) × Word32 x
     go true l q =
         let v : word_at s 0 ≡ x = cc in
         simp (← v) (word_front s 0 4 b refl (leb-true 4 (length s) l), word_fits s 0 b)
@@ -63,8 +62,8 @@ optional_done : {A : Type 0} (absent : A) (present : List ℕ → Parsed A) (s :
 unfolding marker_of
 optional_done absent present s a t b e = by_word (word_of s) refl e
   where
-    by_value : (x : ℕ) (zero? one? : Bool) → eqb x 0 ≡ zero? → eqb x 1 ≡ one? → word_of s ≡ word.Value x →
-        after_marker (cond zero? marker.End (cond one? marker.Entry (marker.Refused 6))) (drop 4 s) absent present ≡ done a t → OptionalRead absent present s a t
+    by_value : (x : ℕ) (zero? one? : Bool) → eqb x 0 ≡ zero? → eqb x 1 ≡ one? → word_of s ≡ Ok x →
+        after_marker (cond zero? (Ok marker.End) (cond one? (Ok marker.Entry) (Err 6))) (drop 4 s) absent present ≡ done a t → OptionalRead absent present s a t
     by_value x true one? p q w e =
         let x0 : x ≡ 0 = eqb-true x 0 p in
         let d : t ≡ drop 4 s = cc in
@@ -74,9 +73,9 @@ optional_done absent present s a t b e = by_word (word_of s) refl e
         entered (simp (← x1) (word_of_front s x b w).0) e
     by_value x false false p q w e = absurd (never e)
 
-    by_word : (w : Word) → word_of s ≡ w → after_marker (marker_word w) (drop 4 s) absent present ≡ done a t → OptionalRead absent present s a t
-    by_word (word.Refused n) p q = absurd (never q)
-    by_word (word.Value x) p q = by_value x (eqb x 0) (eqb x 1) refl refl p q
+    by_word : (w : Result ℕ ℕ) → word_of s ≡ w → after_marker (marker_word w) (drop 4 s) absent present ≡ done a t → OptionalRead absent present s a t
+    by_word (Err n) p q = absurd (never q)
+    by_word (Ok x) p q = by_value x (eqb x 0) (eqb x 1) refl refl p q
 
 -- An entry of the read list that was read.
 record EntryRead (s : List ℕ) (x : ReadSegment) (t : List ℕ) : Type 0 where
@@ -171,9 +170,9 @@ counted_done : (left : ℕ) (s : List ℕ) (c : List Segment) (t : List ℕ) →
 unfolding counted segments counted_bytes
 counted_done left s c t b e = go (word_of s) refl e
   where
-    go : (w : Word) → word_of s ≡ w → after_word w (λ n. require (leb n left) 7 (segments n (drop 4 s))) ≡ done c t → CountedRead left s c t
-    go (word.Refused n) p q = absurd (never q)
-    go (word.Value n) p q =
+    go : (w : Result ℕ ℕ) → word_of s ≡ w → after_word w (λ n. require (leb n left) 7 (segments n (drop 4 s))) ≡ done c t → CountedRead left s c t
+    go (Err n) p q = absurd (never q)
+    go (Ok n) p q =
         let u = drop 4 s in
         let room = required (leb n left) 7 (segments n u) q in
         let there = required (leb (n * 16) (length u)) 5 (done (each 16 (λ v. segment_at v 0) n u) (drop (n * 16) u)) room.1 in

@@ -1,19 +1,21 @@
 // The transport header of a frame, read. Public: read_header, payload; decode_header, which reads into lent words.
 #![tactic(auto)]
 
-ghost use Rattle.std.specs.Prelude.{◌≡◌, ℕ, ◌≤◌, cond, List, length, drop, eqb};
+ghost use Rattle.std.specs.Prelude.{◌≡◌, ℕ, ◌≤◌, cond, List, length, drop, eqb, Ok};
+ghost use Rattle.answers.specs.Refusals.{numbered};
 ghost use Rattle.wire.specs.Wire.{word_at, stored};
 ghost use Rattle.chunk_lists.specs.Parsed.{done};
 ghost use Rattle.chunk_lists.specs.Words.{reads_words};
 ghost use Rattle.header.specs.Content.{Content};
 ghost use Rattle.header.specs.declared.Kind.TheVariants as kinds;
 ghost use Rattle.reader.specs.Frame.{read_frame, read_answer, read_number, read_words, payload_of, three_parts, error_body};
-ghost use Rattle.reader.specs.Internal.Shape.{error_shape, frame_check, ended_check, list_refusal, frame_refusal};
+ghost use Rattle.reader.specs.Internal.Shape.{error_shape, frame_check, ended_check};
 
-use chunk_lists::{ChunkStep, ListCheck};
+use answers::Refusal;
 use header::{ErrorKind, Header, Kind};
-use wire::Word;
+use wire::{ReadSegment, Segment};
 
+// Stays: README has `read_header` with this answer, its number beside the header.
 #[derive(Clone, Copy)]
 pub struct ReadAnswer {
     pub header: Header,
@@ -26,116 +28,83 @@ pub struct Shape {
     pub kind: Kind,
     pub reads: usize,
     pub chunks: usize,
-    pub present: bool,
-    pub replies: usize,
+    // The segments of the reply chunk, if there is one.
+    pub reply: Option<usize>,
     pub end: usize,
 }
 
-#[derive(Clone, Copy)]
-pub enum FrameCheck {
-    Found(Shape),
-    Refused(u32),
-}
-
-// The number of a list that was refused.
-fn list_refusal(w: ListCheck) -> u32
-    ensures { result ≡ list_refusal w }
-{
-    match w {
-        ListCheck::Refused(number) => number,
-        ListCheck::Done(_, _) => 0,
-    }
-}
-
 // Checks the three parts behind the fixed words.
-fn check_lists(s: &[u8], kind: Kind) -> FrameCheck
+fn check_lists(s: &[u8], kind: Kind) -> Result<Shape, Refusal>
     requires { 16 ≤ length s.now }
-    ensures { result ≡ frame_check (length s.now) (three_parts kind (word_at s.now 0) (word_at s.now 8) (drop 16 s.now)) }
+    ensures { numbered result ≡ frame_check (length s.now) (three_parts kind (word_at s.now 0) (word_at s.now 8) (drop 16 s.now)) }
 {
-    let reads = chunk_lists::check_read_list(&s[header::FIXED_BYTES..]);
-    let ListCheck::Done(n, behind_reads) = reads else {
-        return FrameCheck::Refused(list_refusal(reads));
-    };
-    let w = s.len() - behind_reads;
-    let writes = chunk_lists::check_write_list(&s[w..]);
-    let ListCheck::Done(chunks, behind_writes) = writes else {
-        return FrameCheck::Refused(list_refusal(writes));
-    };
-    let p = s.len() - behind_writes;
-    let reply = chunk_lists::check_chunk(&s[p..], 1, chunk_lists::MAX_REPLY_SEGMENTS);
-    match reply {
-        ChunkStep::Refused(number) => FrameCheck::Refused(number),
-        ChunkStep::End => FrameCheck::Found(Shape {
+    let reads = chunk_lists::check_read_list(&s[header::FIXED_BYTES..])?;
+    let w = s.len() - reads.left;
+    let writes = chunk_lists::check_write_list(&s[w..])?;
+    let p = s.len() - writes.left;
+    match chunk_lists::check_chunk(&s[p..], 1, chunk_lists::MAX_REPLY_SEGMENTS)? {
+        None => Ok(Shape {
             kind,
-            reads: n,
-            chunks,
-            present: false,
-            replies: 0,
+            reads: reads.entries,
+            chunks: writes.entries,
+            reply: None,
             end: p + wire::WORD_BYTES,
         }),
-        ChunkStep::Chunk(m) => FrameCheck::Found(Shape {
+        Some(m) => Ok(Shape {
             kind,
-            reads: n,
-            chunks,
-            present: true,
-            replies: m,
+            reads: reads.entries,
+            chunks: writes.entries,
+            reply: Some(m),
             end: p + chunk_lists::CHUNK_HEAD_BYTES + m * wire::SEGMENT_BYTES,
         }),
     }
 }
 
 // An ERROR header has no lists.
-fn error_shape(kind: ErrorKind, end: usize) -> FrameCheck
-    ensures { result ≡ FrameCheck.Found (error_shape kind end) }
+fn error_shape(kind: ErrorKind, end: usize) -> Shape
+    ensures { result ≡ error_shape kind end }
 {
-    FrameCheck::Found(Shape {
+    Shape {
         kind: Kind::Error(kind),
         reads: 0,
         chunks: 0,
-        present: false,
-        replies: 0,
+        reply: None,
         end,
-    })
+    }
 }
 
 // Checks what stands behind the fixed words of an ERROR header.
-fn check_error(s: &[u8]) -> FrameCheck
+fn check_error(s: &[u8]) -> Result<Shape, Refusal>
     requires { 16 ≤ length s.now }
-    ensures { result ≡ frame_check (length s.now) (error_body (word_at s.now 0) (word_at s.now 8) (drop 16 s.now)) }
+    ensures { numbered result ≡ frame_check (length s.now) (error_body (word_at s.now 0) (word_at s.now 8) (drop 16 s.now)) }
 {
-    let word = wire::first_word(&s[header::FIXED_BYTES..]);
-    let Word::Value(code) = word else {
-        return FrameCheck::Refused(wire::refusal(word));
-    };
+    let code = wire::first_word(&s[header::FIXED_BYTES..])?;
     if code == header::CODE_VERSION {
         if s.len() < header::VERSION_ERROR_BYTES {
-            return FrameCheck::Refused(answers::ENDS_INSIDE_FIELD);
+            return Err(Refusal::EndsInsideField);
         }
-        return error_shape(
+        return Ok(error_shape(
             ErrorKind::Version(
                 wire::word_at(s, header::LOW_AT),
                 wire::word_at(s, header::HIGH_AT),
             ),
             header::VERSION_ERROR_BYTES,
-        );
+        ));
     }
     if code == header::CODE_CHUNK {
-        return error_shape(ErrorKind::Chunk, header::CHUNK_ERROR_BYTES);
+        return Ok(error_shape(ErrorKind::Chunk, header::CHUNK_ERROR_BYTES));
     }
-    FrameCheck::Refused(answers::OTHER_ERROR_CODE)
+    Err(Refusal::OtherErrorCode)
 }
 
 // Refuses bytes behind the header.
-fn check_nothing_behind(walk: FrameCheck, size: usize) -> FrameCheck
-    ensures { result ≡ ended_check size walk }
+fn check_nothing_behind(shape: Shape, size: usize) -> Result<Shape, Refusal>
+    ensures { numbered result ≡ ended_check size (Ok shape) }
 {
-    let FrameCheck::Found(shape) = walk else {
-        return walk;
-    };
     if shape.end != size {
-        return FrameCheck::Refused(answers::BYTES_BEHIND);
+        return Err(Refusal::BytesBehind);
     }
-    walk
+    Ok(shape)
 }
 
 // The kind of a header with lists.
@@ -149,59 +118,50 @@ fn lists_kind(procedure: u32) -> Kind
 }
 
 // Checks a frame.
-pub fn check_frame(s: &[u8]) -> FrameCheck
-    ensures { result ≡ frame_check (length s.now) (read_frame s.now) }
+pub fn check_frame(s: &[u8]) -> Result<Shape, Refusal>
+    ensures { numbered result ≡ frame_check (length s.now) (read_frame s.now) }
 {
     let size = s.len();
     if size < header::FIXED_BYTES {
-        return FrameCheck::Refused(answers::SHORT_FRAME);
+        return Err(Refusal::ShortFrame);
     }
     if wire::word_at(s, header::VERSION_AT) != header::VERSION {
-        return FrameCheck::Refused(answers::OTHER_VERSION);
+        return Err(Refusal::OtherVersion);
     }
     let procedure = wire::word_at(s, header::PROCEDURE_AT);
     // Asked before the tests: behind them the compiler would take the word byte by byte.
     let kind = lists_kind(procedure);
     if procedure == header::PROCEDURE_DONE {
-        return FrameCheck::Refused(answers::DONE_RECEIVED);
+        return Err(Refusal::DoneReceived);
     }
     if procedure == header::PROCEDURE_ERROR {
-        return check_nothing_behind(check_error(s), size);
+        return check_nothing_behind(check_error(s)?, size);
     }
     if header::PROCEDURE_NOMSG < procedure {
-        return FrameCheck::Refused(answers::OTHER_PROCEDURE);
+        return Err(Refusal::OtherProcedure);
     }
     // The one place that walks the lists, for both kinds: the walk is then compiled in place.
-    let walk = check_lists(s, kind);
+    let shape = check_lists(s, kind)?;
     if procedure == header::PROCEDURE_MSG {
-        return walk;
+        return Ok(shape);
     }
-    check_nothing_behind(walk, size)
-}
-
-// The number of a frame that was refused.
-pub fn frame_refusal(w: FrameCheck) -> u32
-    ensures { result ≡ frame_refusal w }
-{
-    match w {
-        FrameCheck::Refused(number) => number,
-        FrameCheck::Found(_) => 0,
-    }
+    check_nothing_behind(shape, size)
 }
 
 // Decodes the header of a frame into the words that the caller lends. A frame that is refused leaves them as they were.
+// Stays: README has it answer a number, as `eos_read_header` hands on.
 pub fn decode_header(s: &[u8], words: &mut [u32; 238]) -> u32
     ensures answer { result ≡ read_number (read_frame s.now) }
     ensures words { words.new ≡ read_words (read_frame s.now) words.old }
 {
     let walk = check_frame(s);
-    let FrameCheck::Found(shape) = walk else {
-        return frame_refusal(walk);
+    let Ok(shape) = walk else {
+        return answers::number(walk);
     };
     let kind = shape.kind;
     let n = shape.reads;
     let chunks = shape.chunks;
-    let m = shape.replies;
+    let m = shape.reply.unwrap_or(0);
     *words = [0u32; 238];
     // The numbers before the lists, whose loops then have none of them to keep.
     words[header::KIND_WORD_AT] = header::kind_number(kind);
@@ -209,13 +169,13 @@ pub fn decode_header(s: &[u8], words: &mut [u32; 238]) -> u32
     words[header::HIGH_WORD_AT] = header::high_of(kind);
     words[header::READ_COUNT_AT] = n as u32;
     words[header::WRITE_CHUNKS_AT] = chunks as u32;
-    words[header::REPLY_PRESENT_AT] = wire::flag_number(shape.present);
+    words[header::REPLY_PRESENT_AT] = u32::from(shape.reply.is_some());
     words[header::REPLY_COUNT_AT] = m as u32;
     words[header::XID_WORD_AT] = wire::word_at(s, header::XID_AT);
     words[header::CREDIT_WORD_AT] = wire::word_at(s, header::CREDIT_AT);
     let w = header::EMPTY_READS_BYTES + n * chunk_lists::MARKED_ENTRY_BYTES;
     let p = shape.end - m * wire::SEGMENT_BYTES;
-    chunk_lists::decode_read_list(&s[header::FIXED_BYTES..], n, &mut words[..]);
+    chunk_lists::decode_segments::<ReadSegment>(&s[header::FIXED_BYTES..], 0, n, &mut words[..], 0);
     chunk_lists::decode_write_list(
         &s[w..],
         chunks,
@@ -223,16 +183,22 @@ pub fn decode_header(s: &[u8], words: &mut [u32; 238]) -> u32
         header::WRITES_AT,
         header::WRITE_COUNTS_AT,
     );
-    chunk_lists::decode_segments(s, p, m, &mut words[..], header::REPLY_AT);
+    chunk_lists::decode_segments::<Segment>(s, p, m, &mut words[..], header::REPLY_AT);
     0
 }
 
 // Decodes the read list of a frame that was checked into the words, from the first on.
 pub fn decode_frame_reads(s: &[u8], shape: Shape, words: &mut [u32])
-    requires { (frame_check (length s.now) (read_frame s.now) ≡ FrameCheck.Found shape) × (96 ≤ length words.old) }
+    requires { (frame_check (length s.now) (read_frame s.now) ≡ Ok shape) × (96 ≤ length words.old) }
     ensures { (c : Content) (payload : List ℕ) → read_frame s.now ≡ done c payload → words.new ≡ stored words.old 0 (reads_words c.reads) }
 {
-    chunk_lists::decode_read_list(&s[header::FIXED_BYTES..], shape.reads, words);
+    chunk_lists::decode_segments::<ReadSegment>(
+        &s[header::FIXED_BYTES..],
+        0,
+        shape.reads,
+        words,
+        0,
+    );
 }
 
 // Reads the header of a frame.
@@ -251,10 +217,8 @@ pub fn read_header(s: &[u8]) -> ReadAnswer
 pub fn payload(s: &[u8]) -> &[u8]
     ensures { result.now ≡ payload_of (read_frame s.now) }
 {
-    let walk = check_frame(s);
-    let FrameCheck::Found(shape) = walk else {
+    let Ok(shape) = check_frame(s) else {
         return &s[0..0];
     };
-    let from = shape.end;
-    &s[from..]
+    &s[shape.end..]
 }
