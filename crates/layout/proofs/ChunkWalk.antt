@@ -22,9 +22,6 @@ use Rattle.layout.proofs.Joins.{Order, less, same, more, order, join_less, join_
 
 -- What a step over a segment answers.
 module _ (w : Run) (x : ReadSegment) (p l : ℕ) (here : p ≡ x.position) (size : l ≡ x.target.length) where
-  pub near_words : p < 4294967296 → l < 4294967296 → Near x
-  near_words a b = record { near_position = rw here at a; near_length = rw size at b }
-
   pub joined_zero : p ≡ 0 → w ≡ joined_run w x
   unfolding joined_run
   joined_zero e = rw (eq-eqb x.position 0 (sym here ∙ e))

@@ -4,6 +4,8 @@ use mathlib.Core.Path.{◌≡◌, refl, sym, ap, ◌∙◌}
 use mathlib.Core.Bool.{Bool, true, false, cond}
 use mathlib.Core.List.{List, [], ◌∷◌}
 use Prim.Native.Nat.{ℕ, ◌+◌, ◌-◌, ◌≤◌, ◌<◌}
+use Rattle.std.specs.Prelude.{Some, None}
+use Rattle.std.proofs.lemmas.Option.{none-some, cond_some}
 use native.Mathlib.Omega.{arith}
 use borrow.Author.Tests.{le-leb, lt-leb}
 use Rattle.wire.specs.declared.ReadSegment.{ReadSegment}
@@ -11,8 +13,6 @@ use Rattle.layout.specs.Layout.{run, other_chunks, rounded_up, rounded_total, st
 use Rattle.layout.specs.Internal.Walks.{joined_run, ended_length, chunk_check}
 use Rattle.layout.proofs.Remaining.{remaining}
 use Rattle.layout.specs.declared.Run.{Run}
-use Rattle.layout.specs.declared.ChunkCheck.{ChunkCheck}
-use Rattle.layout.specs.declared.ChunkCheck.TheVariants.{Stands, Overlaps}
 use Rattle.layout.proofs.ChunkWalk.{Walk, Headed, Step, joins, opens, ends, step, above, at_position_lem, at_first, Last, nothing, itself, last}
 
 -- Rounding adds 3 at most.
@@ -38,7 +38,7 @@ stands_past : (base end earlier p : ℕ) (cs : List Run) → Headed p cs → end
 unfolding stands
 stands_past base end earlier p cs h a b = rw (h.is, le-leb end p a, lt-leb (p - earlier) base b)
 
-overlaps : (base : ℕ) (cs : List Run) → stands base 0 0 cs ≡ false → chunk_check base cs ≡ Overlaps
+overlaps : (base : ℕ) (cs : List Run) → stands base 0 0 cs ≡ false → chunk_check base cs ≡ None
 overlaps base cs e = rw e
 
 -- With the chunk w at hand: where the former one ends, and the rounded lengths of all before.
@@ -100,18 +100,18 @@ module _ (base : ℕ) (cs : List Run) (w : Run) (earlier : ℕ) (x : ReadSegment
             near = rw (at_position_lem w x xs k) near;
           }
 
-  pub stood_overlaps : x.position < w.at + size → chunk_check base cs ≡ Overlaps
+  pub stood_overlaps : x.position < w.at + size → chunk_check base cs ≡ None
   stood_overlaps under = by (step w x xs k)
     where
-      by : Step w x xs → chunk_check base cs ≡ Overlaps
+      by : Step w x xs → chunk_check base cs ≡ None
       by (joins here z is) = absurd (let none = none_ended z in let up = above w x xs k in omega arith)
       by (opens first z is h) = absurd (let none = none_ended z in let up = above w x xs k in omega arith)
       by (ends z is h) = overlaps base cs (same_ended z is ∙ stands_over base (w.at + size) (earlier + size) x.position _ h under)
 
-  pub stood_past : w.at + size ≤ x.position → base < x.position - (earlier + size) → chunk_check base cs ≡ Overlaps
+  pub stood_past : w.at + size ≤ x.position → base < x.position - (earlier + size) → chunk_check base cs ≡ None
   stood_past over past = by (step w x xs k)
     where
-      by : Step w x xs → chunk_check base cs ≡ Overlaps
+      by : Step w x xs → chunk_check base cs ≡ None
       by (joins here z is) = absurd (let none = none_ended z in let near = s.near in omega arith)
       by (opens first z is h) =
           let none = none_ended z in
@@ -120,11 +120,11 @@ module _ (base : ℕ) (cs : List Run) (w : Run) (earlier : ℕ) (x : ReadSegment
           overlaps base cs (s.same ∙ rw is (stands_past base s.end earlier x.position _ h (omega arith) (omega arith)))
       by (ends z is h) = overlaps base cs (same_ended z is ∙ stands_past base (w.at + size) (earlier + size) x.position _ h over past)
 
-pub stood_all : (base : ℕ) (cs : List Run) (w : Run) (earlier size : ℕ) → Walk w [] → Stood base cs w earlier [] → size ≡ rounded_up w.length → Stands (earlier + size) ≡ chunk_check base cs
+pub stood_all : (base : ℕ) (cs : List Run) (w : Run) (earlier size : ℕ) → Walk w [] → Stood base cs w earlier [] → size ≡ rounded_up w.length → Some (earlier + size) ≡ chunk_check base cs
 unfolding stands rounded_total
 stood_all base cs w earlier size k s e = by (last w k)
   where
-    by : Last w → Stands (earlier + size) ≡ chunk_check base cs
+    by : Last w → Some (earlier + size) ≡ chunk_check base cs
     by (nothing z is) =
         let none : size ≡ 0 = e ∙ ap rounded_up z ∙ rounded_none in
         let sum : earlier + size ≡ rounded_total cs = (let all = rw is at s.sum in omega arith) in
@@ -134,20 +134,12 @@ stood_all base cs w earlier size k s e = by (last w k)
         rw (s.same, is, stands_next base s.end earlier w [] s.behind s.near, sum)
 
 -- What the answer says.
-told : (b : Bool) (n size : ℕ) → cond b (Stands n) Overlaps ≡ Stands size → (b ≡ true) × (size ≡ n)
-told true n size e = (refl, sym (ap size_of e))
-  where
-    size_of : ChunkCheck → ℕ
-    size_of (Stands m) = m
-    size_of Overlaps = 0
-told false n size e = absurd (let z : ◌≡◌ {A = ℕ} 0 1 = cc in omega arith)
+pub stands_told : (base size : ℕ) (cs : List Run) → chunk_check base cs ≡ Some size → (stands base 0 0 cs ≡ true) × (size ≡ rounded_total cs)
+stands_told base size cs e = let told = cond_some (stands base 0 0 cs) (rounded_total cs) size e in (told.0, sym told.1)
 
-pub stands_told : (base size : ℕ) (cs : List Run) → chunk_check base cs ≡ Stands size → (stands base 0 0 cs ≡ true) × (size ≡ rounded_total cs)
-stands_told base size cs e = told (stands base 0 0 cs) (rounded_total cs) size e
+pub cond_none : {A : Type 0} (b : Bool) (x : A) → cond b (Some x) None ≡ None → b ≡ false
+cond_none true x e = absurd (none-some x (sym e))
+cond_none false x e = refl
 
-told_not : (b : Bool) (n : ℕ) → cond b (Stands n) Overlaps ≡ Overlaps → b ≡ false
-told_not true n e = absurd (let z : ◌≡◌ {A = ℕ} 0 1 = cc in omega arith)
-told_not false n e = refl
-
-pub overlaps_told : (base : ℕ) (cs : List Run) → chunk_check base cs ≡ Overlaps → stands base 0 0 cs ≡ false
-overlaps_told base cs e = told_not (stands base 0 0 cs) (rounded_total cs) e
+pub overlaps_told : (base : ℕ) (cs : List Run) → chunk_check base cs ≡ None → stands base 0 0 cs ≡ false
+overlaps_told base cs e = cond_none (stands base 0 0 cs) (rounded_total cs) e

@@ -4,10 +4,13 @@ use mathlib.Core.Path.{◌≡◌, refl, sym, ap, ◌∙◌}
 use mathlib.Core.Bool.{Bool, true, false, cond}
 use mathlib.Core.List.{List}
 use Prim.Native.Nat.{ℕ, ◌%◌, ◌≤◌, ◌<◌}
+use Rattle.std.specs.Prelude.{Result, Ok, Err}
 use native.Mathlib.Omega.{arith}
 use borrow.Author.Tests.{leb-true, eqb-true, eqb-false}
 use lib.Dec.{leb, eqb}
 use Rattle.wire.specs.declared.ReadSegment.{ReadSegment}
+use Rattle.answers.specs.Refusals.{refusal_number, numbered, outcome_number}
+use Rattle.answers.specs.declared.Refusal.{Refusal}
 use Rattle.answers.proofs.Checks.{check_passed}
 use Rattle.header.specs.Words.{kind_number}
 use Rattle.header.specs.declared.Kind.{Kind}
@@ -15,32 +18,26 @@ use Rattle.header.specs.declared.Kind.TheVariants.{Msg, Nomsg, Error}
 use Rattle.layout.specs.Layout.{kind_fits, base_length, stands, message_length, place_number}
 use Rattle.layout.specs.Internal.Walks.{layout_check, layout_number}
 use Rattle.layout.specs.declared.Run.{Run}
-use Rattle.layout.specs.declared.LayoutCheck.{LayoutCheck}
-use Rattle.layout.specs.declared.LayoutCheck.TheVariants.{Holds, Refused}
 
 -- What measuring says of the number, with either answer.
-module _ (kind : Kind) (base : ℕ) (atZero : Bool) (cs : List Run) (room : ℕ) (m : LayoutCheck) (measured : m ≡ layout_check kind base atZero cs room) where
+module _ (kind : Kind) (base : ℕ) (atZero : Bool) (cs : List Run) (room : ℕ) (m : Result ℕ Refusal) (measured : numbered m ≡ layout_check kind base atZero cs room) where
   abbrev number : ℕ
   number = place_number kind atZero base cs room
 
-  pub layout_holds : (message : ℕ) → m ≡ Holds message → (number ≡ 0) × (message ≡ message_length base cs)
+  pub layout_holds : (message : ℕ) → m ≡ Ok message → (number ≡ 0) × (message ≡ message_length base cs)
   unfolding layout_check
-  layout_holds message e = by (eqb number 0) refl (sym e ∙ measured)
+  layout_holds message e = by (eqb number 0) refl (sym (ap numbered e) ∙ measured)
     where
-      length_in : LayoutCheck → ℕ
-      length_in (Holds n) = n
-      length_in (Refused n) = 0
+      by : (b : Bool) → eqb number 0 ≡ b → Ok message ≡ cond b (Ok (message_length base cs)) (Err number) → (number ≡ 0) × (message ≡ message_length base cs)
+      by true z q = (eqb-true number 0 z, grind arith)
+      by false z q = absurd (grind arith)
 
-      by : (b : Bool) → eqb number 0 ≡ b → Holds message ≡ cond b (Holds (message_length base cs)) (Refused number) → (number ≡ 0) × (message ≡ message_length base cs)
-      by true z q = (eqb-true number 0 z, ap length_in q)
-      by false z q = absurd (let n : ◌≡◌ {A = ℕ} 0 1 = cc in omega arith)
-
-  pub layout_refused : (n : ℕ) → m ≡ Refused n → (n ≡ number) × (n ≡ 0 → ⊥)
+  pub layout_refused : (r : Refusal) → m ≡ Err r → (outcome_number m ≡ number) × (outcome_number m ≡ 0 → ⊥)
   unfolding layout_check
-  layout_refused n e = by (eqb number 0) refl (sym e ∙ measured)
+  layout_refused r e = rw e (by (eqb number 0) refl (sym (ap numbered e) ∙ measured))
     where
-      by : (b : Bool) → eqb number 0 ≡ b → Refused n ≡ cond b (Holds (message_length base cs)) (Refused number) → (n ≡ number) × (n ≡ 0 → ⊥)
-      by true z q = absurd (let k : ◌≡◌ {A = ℕ} 0 1 = cc in omega arith)
+      by : (b : Bool) → eqb number 0 ≡ b → Err (refusal_number r) ≡ cond b (Ok (message_length base cs)) (Err number) → (refusal_number r ≡ number) × (refusal_number r ≡ 0 → ⊥)
+      by true z q = absurd (grind arith)
       by false z q = let same = ap layout_number q in (same, λ w. eqb-false number 0 z (sym same ∙ w))
 
 -- What a number 0 says of the chunks.

@@ -1,16 +1,14 @@
 -- What the segments of a read list make together.
 -- Assumes nothing.
-use mathlib.Core.Path.{◌≡◌, refl, sym, ◌∙◌}
-use mathlib.Core.Bool.{Bool, true, false, cond, ◌||◌}
+use mathlib.Core.Path.{◌≡◌, refl, sym, ap, ◌∙◌}
+use mathlib.Core.Bool.{Bool, true, false, cond, ◌||◌, or-true, or-false}
 use mathlib.Core.List.{List, [], ◌∷◌, ◌++◌}
-use Prim.Native.Nat.{ℕ, ◌+◌, ◌*◌, ◌≤◌, ◌<◌}
+use Prim.Native.Nat.{ℕ, suc, ◌+◌, ◌*◌, ◌≤◌, ◌<◌}
 use native.Mathlib.Nat.{add-zero}
-use native.Mathlib.Numerals.{add-one}
 use native.Mathlib.Omega.{arith}
-use lib.ListN.{length, take, get_or}
-use lib.Seq.{take-suc, take-length}
+use lib.ListN.{length, take, drop, get_or}
+use Rattle.std.proofs.lemmas.List.{take_all, take_more, get_or-drop, length-drop}
 use lib.Dec.{eqb}
-use borrow.Author.Tests.{eq-eqb, ne_eqb}
 use Rattle.wire.specs.Wire.{zero_read_segment}
 use Rattle.wire.specs.declared.ReadSegment.{ReadSegment}
 use Rattle.layout.specs.Layout.{join_chunk, any_at_zero, zero_length, other_chunks}
@@ -21,11 +19,7 @@ use Rattle.layout.proofs.Joins.{total_join}
 -- One segment more at the end of the list.
 pub any_next : (xs : List ReadSegment) (x : ReadSegment) → any_at_zero (xs ++ (x ∷ [])) ≡ (any_at_zero xs || eqb x.position 0)
 unfolding any_at_zero
-any_next [] x = by (eqb x.position 0)
-  where
-    by : (b : Bool) → (b || false) ≡ b
-    by true = refl
-    by false = refl
+any_next [] x = or-false (eqb x.position 0)
 any_next (y ∷ xs) x = by (eqb y.position 0) (any_next xs x)
   where
     by : (b : Bool) → any_at_zero (xs ++ (x ∷ [])) ≡ (any_at_zero xs || eqb x.position 0) → (b || any_at_zero (xs ++ (x ∷ []))) ≡ ((b || any_at_zero xs) || eqb x.position 0)
@@ -42,14 +36,6 @@ unfolding read_length
 read_next [] x = omega arith
 read_next (y ∷ xs) x = omega (arith, read_next xs x)
 
-or_true : (b : Bool) → (b || true) ≡ true
-or_true true = refl
-or_true false = refl
-
-or_false : (b : Bool) → (b || false) ≡ b
-or_false true = refl
-or_false false = refl
-
 sums_next : (xs : List ReadSegment) (x : ReadSegment) → sums_of (xs ++ (x ∷ [])) ≡ sums_with (sums_of xs) x
 unfolding sums_with
 sums_next xs x = rw (any_next xs x, zero_next xs x, read_next xs x) (by (eqb x.position 0))
@@ -58,18 +44,8 @@ sums_next xs x = rw (any_next xs x, zero_next xs x, read_next xs x) (by (eqb x.p
         ◌≡◌ {A = Sums} (record { zero_length = zero_length xs + cond b x.target.length 0; any_zero = any_at_zero xs || b; all_length = read_length xs + x.target.length })
         (cond b (record { zero_length = zero_length xs + x.target.length; any_zero = true; all_length = read_length xs + x.target.length })
         (record { zero_length = zero_length xs; any_zero = any_at_zero xs; all_length = read_length xs + x.target.length }))
-    by true = rw (or_true (any_at_zero xs))
-    by false = rw (or_false (any_at_zero xs), add-zero)
-
--- What a step over a segment answers.
-module _ (s : Sums) (x : ReadSegment) (l : ℕ) (size : l ≡ x.target.length) where
-  pub with_zero : x.position ≡ 0 → record { zero_length = s.zero_length + l; any_zero = true; all_length = s.all_length + l } ≡ sums_with s x
-  unfolding sums_with
-  with_zero e = rw (size, eq-eqb x.position 0 e)
-
-  pub with_other : (x.position ≡ 0 → ⊥) → record { zero_length = s.zero_length; any_zero = s.any_zero; all_length = s.all_length + l } ≡ sums_with s x
-  unfolding sums_with
-  with_other n = rw (size, ne_eqb x.position 0 n)
+    by true = rw (or-true (any_at_zero xs))
+    by false = rw (or-false (any_at_zero xs), add-zero)
 
 -- Where no segment stands at 0, there are no bytes.
 pub none_at_zero : (xs : List ReadSegment) → any_at_zero xs ≡ false → zero_length xs ≡ 0
@@ -104,13 +80,19 @@ summed_start reads = record { is = refl; small = omega arith }
 pub summed_ready : (reads : List ReadSegment) (i : ℕ) (s : Sums) → i < 16 → Summed reads i s → (s.zero_length ≤ s.all_length) × (s.all_length ≤ 64424509440)
 summed_ready reads i s h w = (rw w.is (omega (arith, read_total (take i reads))), omega (arith, w.small))
 
-pub summed_next : (reads : List ReadSegment) (i : ℕ) (s r : Sums) → i < length reads → Summed reads i s → r ≡ sums_with s (get_or reads i zero_read_segment) → (get_or reads i zero_read_segment).target.length < 4294967296 → Summed reads (i + 1) r
-summed_next reads i s r h w e near =
-    let x = get_or reads i zero_read_segment in
-    let split : take (i + 1) reads ≡ take i reads ++ (x ∷ []) = rw add-one (take-suc reads i zero_read_segment h) in
+-- The segments up to one more.
+take_next : (reads : List ReadSegment) (i : ℕ) (x : ReadSegment) (rest : List ReadSegment) → drop i reads ≡ x ∷ rest → take (i + 1) reads ≡ take i reads ++ (x ∷ [])
+take_next reads i x rest e =
+    let left : length (drop i reads) ≡ suc (length rest) = ap length e in
+    let here : get_or reads i zero_read_segment ≡ x = sym (get_or-drop i reads 0 zero_read_segment ∙ ap (λ (k : ℕ). get_or reads k zero_read_segment) (add-zero i)) ∙ ap (λ (l : List ReadSegment). get_or l 0 zero_read_segment) e in
+    take_more reads i zero_read_segment (let all = length-drop i reads in omega arith) ∙ rw here
+
+pub summed_next : (reads : List ReadSegment) (i : ℕ) (s r : Sums) (x : ReadSegment) → drop i reads ≡ x ∷ drop (i + 1) reads → Summed reads i s → r ≡ sums_with s x → x.target.length < 4294967296 → Summed reads (i + 1) r
+summed_next reads i s r x rest w e near =
+    let split = take_next reads i x (drop (i + 1) reads) rest in
     let is : r ≡ sums_of (take (i + 1) reads) = e ∙ rw (w.is, split) (sym (sums_next (take i reads) x)) in
     let all : r.all_length ≡ s.all_length + x.target.length = rw (is, split, w.is) (read_next (take i reads) x) in
     record { is = is; small = omega (arith, w.small) }
 
-pub summed_all : (reads : List ReadSegment) (s : Sums) → Summed reads (length reads) s → s ≡ sums_of reads
-summed_all reads s w = rw (take-length reads) at w.is
+pub summed_all : (reads : List ReadSegment) (i : ℕ) (s : Sums) → drop i reads ≡ [] → Summed reads i s → s ≡ sums_of reads
+summed_all reads i s none w = w.is ∙ ap sums_of (take_all i reads (let e = length-drop i reads in let n : length (drop i reads) ≡ 0 = ap length none in omega arith))

@@ -3,26 +3,26 @@
 use mathlib.Core.Path.{◌≡◌, refl, sym, ap, subst, ◌∙◌}
 use mathlib.Core.Bool.{Bool, true, false, cond}
 use mathlib.Core.List.{List, [], ◌∷◌, ◌++◌}
-use Prim.Native.Nat.{ℕ, suc, ◌+◌, ◌-◌, ◌≤◌, ◌<◌, min}
+use Prim.Native.Nat.{ℕ, suc, ◌+◌, ◌-◌, ◌*◌, ◌≤◌, ◌<◌, min}
+use native.Mathlib.Nat.{add-zero, sub-zero}
+use Rattle.std.proofs.lemmas.List.{take_all}
 use native.Mathlib.Omega.{arith}
 use lib.ListN.{length, take, drop, length-drop, take-append-drop}
 use lib.Seq.{take-length, take-add, take_at, drop_at, drop-drop, length-take-le}
-use lib.Dec.{leb, ltb, eqb}
-use borrow.Author.Tests.{leb-true, leb-false, ltb-true, ltb-false, eqb-true, eqb-false, eq-eqb, ne_eqb}
+use lib.Dec.{leb, eqb}
+use borrow.Author.Tests.{leb-true, leb-false, eqb-true, eqb-false, eq-eqb, ne_eqb}
 use Rattle.wire.specs.declared.ReadSegment.{ReadSegment}
 use Rattle.read_order.specs.ReadOrder.{never_falls, is_sorted}
 use Rattle.read_order.proofs.Rising.{rises}
 use Rattle.layout.specs.Places.{scatter}
-use Rattle.layout.specs.Layout.{run, any_at_zero, other_chunks, rounded_total, stands, message_length}
-use Rattle.layout.specs.Internal.Walks.{total_length, read_length}
+use Rattle.layout.specs.Layout.{run, other_chunks, message_length}
+use Rattle.layout.specs.Internal.Walks.{read_length}
 use Rattle.layout.specs.declared.Run.{Run}
-use Rattle.layout.proofs.Scatter.{scatter_append, scatter_first, length_places}
-use Rattle.layout.proofs.ChunksStand.{rounded_most}
+use Rattle.layout.proofs.Scatter.{scatter_append, scatter_first, scatter_none}
 use Rattle.placing.specs.Segments.{dealt, position_length}
 use Rattle.placing.specs.Goes.{PulledByte, of_segment, pulled_bytes, goes}
-use Rattle.placing.specs.Internal.Sources.{source_places, read_places, part_places, PartWithin, LayoutChecked, BasePulled}
+use Rattle.placing.specs.Internal.Sources.{read_places, part_places, PartWithin, LayoutChecked, BasePulled}
 use Rattle.placing.proofs.Goes.{goes_any, goes_segment, length_bytes, SegmentsFrom, segments_none, segments_take}
-use Rattle.placing.proofs.Sources.{length_based}
 use Rattle.placing.proofs.Segments.{read_append, part_within, length_of_part, part_places_lem, part_bytes, part_last}
 
 -- The same, said of the whole list.
@@ -49,7 +49,7 @@ pub record SegmentAt (reads : List ReadSegment) (i : ℕ) (x : ReadSegment) : Ty
   pub here : length (take i reads) ≡ i
   pub next : take (i + 1) reads ≡ take i reads ++ (x ∷ [])
 
-pub segment_at_lem : (reads : List ReadSegment) (i : ℕ) (x : ReadSegment) → i < length reads → drop i reads ≡ x ∷ drop (i + 1) reads → SegmentAt reads i x
+segment_at_lem : (reads : List ReadSegment) (i : ℕ) (x : ReadSegment) → i < length reads → drop i reads ≡ x ∷ drop (i + 1) reads → SegmentAt reads i x
 segment_at_lem reads i x h e =
     record {
       is = sym (take-append-drop i reads) ∙ ap (λ (l : List ReadSegment). take i reads ++ l) e;
@@ -57,7 +57,7 @@ segment_at_lem reads i x h e =
       next = take-add i 1 reads ∙ rw e;
     }
 
-pub part_at : (base : ℕ) (reads : List ReadSegment) (i : ℕ) (x : ReadSegment) → LayoutChecked base reads → BasePulled base reads → SegmentAt reads i x → (left m : ℕ) → 0 < m → left + m ≤ x.target.length → PartAt base reads (take i reads) i x left m
+part_at : (base : ℕ) (reads : List ReadSegment) (i : ℕ) (x : ReadSegment) → LayoutChecked base reads → BasePulled base reads → SegmentAt reads i x → (left m : ℕ) → 0 < m → left + m ≤ x.target.length → PartAt base reads (take i reads) i x left m
 part_at base reads i x c p a left m some most =
     subst (λ (l : List ReadSegment). PartAt base l (take i reads) i x left m) (sym a.is)
     (subst (λ (k : ℕ). PartAt base (take i reads ++ (x ∷ drop (i + 1) reads)) (take i reads) k x left m) a.here
@@ -68,14 +68,14 @@ module _ (base : ℕ) (reads before : List ReadSegment) (i : ℕ) (x : ReadSegme
   abbrev whole_bytes : List PulledByte
   whole_bytes = pulled_bytes 0 (dealt reads (read_places base reads))
 
-  pub part_placed : (start out after : List ℕ) → out ≡ scatter (drop count (read_places base reads)) (take j piece) start → after ≡ scatter (part_places base (other_chunks reads) x.position (position_length x.position before + left) m) (take m (drop j piece)) out →
+  part_placed : (start out after : List ℕ) → out ≡ scatter (drop count (read_places base reads)) (take j piece) start → after ≡ scatter (part_places base (other_chunks reads) x.position (position_length x.position before + left) m) (take m (drop j piece)) out →
       after ≡ scatter (drop count (read_places base reads)) (take (j + m) piece) start
   part_placed start out after now then =
       let front : length (take j piece) ≡ j = length-take-le j piece (omega arith) in
       let fits : length (take m (drop j piece)) ≡ m = length-take-le m (drop j piece) (omega (arith, length-drop j piece)) in
       then ∙ rw (take-add j m piece, scatter_append, front, drop-drop, here, ← now, a.in_places) (sym (scatter_first _ _ (take m (drop j piece)) out (rw (fits, a.long) (omega arith))))
 
-  pub part_counted : (g whole r : ℕ) → g + goes (take (length piece - j) (drop (count + j) whole_bytes)) ≡ whole → r ≡ goes (of_segment 0 (part_places base (other_chunks reads) x.position (position_length x.position before + left) m)) →
+  part_counted : (g whole r : ℕ) → g + goes (take (length piece - j) (drop (count + j) whole_bytes)) ≡ whole → r ≡ goes (of_segment 0 (part_places base (other_chunks reads) x.position (position_length x.position before + left) m)) →
       g + r + goes (take (length piece - (j + m)) (drop (count + (j + m)) whole_bytes)) ≡ whole
   part_counted g whole r now told =
       let ps = part_places base (other_chunks reads) x.position (position_length x.position before + left) m in
@@ -106,7 +106,7 @@ pub record Hand (reads : List ReadSegment) (i : ℕ) (w : Run) : Type 0 where
   pub above : (q : ℕ) → w.at < q → position_length q (take i reads) ≡ 0
   pub rising : never_falls w.at (drop i reads) ≡ true
 
-pub hand_start : (reads : List ReadSegment) → is_sorted reads ≡ true → Hand reads 0 (run 0 0)
+hand_start : (reads : List ReadSegment) → is_sorted reads ≡ true → Hand reads 0 (run 0 0)
 unfolding position_length
 hand_start reads e = record { size = refl; above = λ q h. refl; rising = e }
 
@@ -115,27 +115,18 @@ unfolding position_length
 length_next p [] x = omega arith
 length_next p (y ∷ ys) x = omega (arith, length_next p ys x)
 
-pub length_within : (p : ℕ) (xs : List ReadSegment) → position_length p xs ≤ read_length xs
-unfolding position_length read_length
-length_within p [] = omega arith
-length_within p (x ∷ xs) = by (eqb x.position p) (length_within p xs)
-  where
-    by : (b : Bool) → position_length p xs ≤ read_length xs → cond b x.target.length 0 + position_length p xs ≤ x.target.length + read_length xs
-    by true ih = omega arith
-    by false ih = omega arith
-
 module _ (reads : List ReadSegment) (i : ℕ) (w : Run) (x : ReadSegment) (rest : drop i reads ≡ x ∷ drop (i + 1) reads) (h : Hand reads i w) where
   up : w.at ≤ x.position
   up = leb-true w.at x.position (rises w.at x (drop (i + 1) reads) (rw rest at h.rising)).above
 
-  pub hand_before : (b : ℕ) → b ≡ cond (eqb w.at x.position) w.length 0 → b ≡ position_length x.position (take i reads)
+  hand_before : (b : ℕ) → b ≡ cond (eqb w.at x.position) w.length 0 → b ≡ position_length x.position (take i reads)
   hand_before b e = by (eqb w.at x.position) refl
     where
       by : (t : Bool) → eqb w.at x.position ≡ t → b ≡ position_length x.position (take i reads)
       by true t = e ∙ rw t (h.size ∙ ap (λ (p : ℕ). position_length p (take i reads)) (eqb-true w.at x.position t))
       by false t = let n = eqb-false w.at x.position t in let le = up in e ∙ rw t (sym (h.above x.position (omega arith)))
 
-  pub hand_next : SegmentAt reads i x → (b : ℕ) → b ≡ position_length x.position (take i reads) → Hand reads (i + 1) (run x.position (b + x.target.length))
+  hand_next : SegmentAt reads i x → (b : ℕ) → b ≡ position_length x.position (take i reads) → Hand reads (i + 1) (run x.position (b + x.target.length))
   hand_next a b e =
       record {
         size = rw (a.next, length_next x.position (take i reads) x, eq-eqb x.position x.position refl, e);
@@ -143,52 +134,110 @@ module _ (reads : List ReadSegment) (i : ℕ) (w : Run) (x : ReadSegment) (rest 
         rising = (rises w.at x (drop (i + 1) reads) (rw rest at h.rising)).onward;
       }
 
-pub read_next : (reads : List ReadSegment) (i : ℕ) (x : ReadSegment) → SegmentAt reads i x → read_length (take (i + 1) reads) ≡ read_length (take i reads) + x.target.length
+read_next : (reads : List ReadSegment) (i : ℕ) (x : ReadSegment) → SegmentAt reads i x → read_length (take (i + 1) reads) ≡ read_length (take i reads) + x.target.length
 unfolding read_length
 read_next reads i x a = rw (a.next, read_append) (omega arith)
 
-pub start_sum : (reads : List ReadSegment) (count : ℕ) → count + 0 ≡ read_length (take 0 reads) + count
+start_sum : (reads : List ReadSegment) (count : ℕ) → count + 0 ≡ read_length (take 0 reads) + count
 unfolding read_length
 start_sum reads count = omega arith
 
--- As long as bytes are left, there is a segment.
-pub still_there : (reads : List ReadSegment) (n i count j size left : ℕ) → length reads ≡ n → i ≤ n → count + j ≡ read_length (take i reads) + left → count + size ≤ read_length reads → j < size → i < n
-still_there reads n i count j size left e le now all lt = by (ltb i n) refl
-  where
-    by : (b : Bool) → ltb i n ≡ b → i < n
-    by true t = ltb-true i n t
-    by false t =
-        let ge = ltb-false i n t in
-        let same : i ≡ length reads = omega arith in
-        let whole : read_length (take i reads) ≡ read_length reads = ap read_length (ap (λ (k : ℕ). take k reads) same ∙ take-length reads) in
-        absurd (omega arith)
-
--- There are no more places than the message has bytes.
-total_rounded : (cs : List Run) → total_length cs ≤ rounded_total cs
-unfolding total_length rounded_total
-total_rounded [] = omega arith
-total_rounded (c ∷ cs) = let up = (rounded_most c.length).0 in omega (arith, total_rounded cs)
-
-pub read_most : (base : ℕ) (reads : List ReadSegment) → stands base 0 0 (other_chunks reads) ≡ true → length (read_places base reads) ≤ message_length base (other_chunks reads)
-read_most base reads s = by (any_at_zero reads)
-  where
-    by : (b : Bool) → length (source_places b base (other_chunks reads)) ≤ message_length base (other_chunks reads)
-    by true = omega (arith, length_based base (other_chunks reads) s, total_rounded (other_chunks reads))
-    by false = omega (arith, length_places (other_chunks reads), total_rounded (other_chunks reads))
-
 -- What is left to say of numbers.
-pub part_length : (j m : ℕ) (piece : List ℕ) → j + m ≤ length piece → (take (j + m - j) (drop j piece) ≡ take m (drop j piece)) × (length (take m (drop j piece)) ≡ m)
+part_length : (j m : ℕ) (piece : List ℕ) → j + m ≤ length piece → (take (j + m - j) (drop j piece) ≡ take m (drop j piece)) × (length (take m (drop j piece)) ≡ m)
 part_length j m piece h = let e : j + m - j ≡ m = omega arith in (rw e, length-take-le m (drop j piece) (omega (arith, length-drop j piece)))
 
-pub finished : (g whole j : ℕ) (piece : List ℕ) (k : ℕ) (all : List PulledByte) → length piece ≤ j → g + goes (take (length piece - j) (drop k all)) ≡ whole → g ≡ whole
+finished : (g whole j : ℕ) (piece : List ℕ) (k : ℕ) (all : List PulledByte) → length piece ≤ j → g + goes (take (length piece - j) (drop k all)) ≡ whole → g ≡ whole
 unfolding goes
 finished g whole j piece k all h e =
     let none : length piece - j ≡ 0 = omega arith in
     let last : g + goes (take 0 (drop k all)) ≡ whole = rw none at e in
     omega arith
 
-pub less_sum : (rest n i : ℕ) → i < n → rest + (n - (i + 1)) < rest + (n - i)
-less_sum rest n i h = omega arith
+-- The bytes of all segments.
+abbrev pub bytes_of : ℕ → List ReadSegment → List PulledByte
+bytes_of base reads = pulled_bytes 0 (dealt reads (read_places base reads))
 
-pub less_rest : (size j m rest : ℕ) → 0 < m → j + m ≤ size → size - (j + m) + rest < size - j + rest
-less_rest size j m rest s h = omega arith
+-- Before segment i, j bytes of a piece are at their places, and `left` are to be passed over from the segment on.
+pub record Placing (base : ℕ) (reads : List ReadSegment) (count : ℕ) (piece start : List ℕ) (i j left : ℕ) (w : Run) (g : ℕ) (out : List ℕ) : Type 0 where
+  pub more : j < length piece
+  pub sum : count + j ≡ read_length (take i reads) + left
+  pub hand : Hand reads i w
+  pub near : w.length ≤ i * 4294967296
+  pub placed : out ≡ scatter (drop count (read_places base reads)) (take j piece) start
+  pub counted : g + goes (take (length piece - j) (drop (count + j) (bytes_of base reads))) ≡ goes (take (length piece) (drop count (bytes_of base reads)))
+
+pub placing_start : (base : ℕ) (reads : List ReadSegment) (count : ℕ) (piece start : List ℕ) → is_sorted reads ≡ true → 0 < length piece → Placing base reads count piece start 0 0 count (run 0 0) 0 start
+placing_start base reads count piece start e some =
+    record { more = some; sum = start_sum reads count; hand = hand_start reads e; near = omega arith; placed = sym (scatter_none _ _); counted = rw (add-zero, sub-zero) (omega arith) }
+
+-- An empty piece takes no go.
+pub none_taken : (all : List PulledByte) (piece : List ℕ) → length piece ≡ 0 → 0 ≡ goes (take (length piece) all)
+unfolding goes
+none_taken all piece e = rw e
+
+-- As long as bytes are left, there is a segment.
+pub placing_ends : (base : ℕ) (reads : List ReadSegment) (count : ℕ) (piece start : List ℕ) (i j left : ℕ) (w : Run) (g : ℕ) (out : List ℕ) → Placing base reads count piece start i j left w g out →
+    length reads ≤ i → count + length piece ≤ read_length reads → ⊥
+placing_ends base reads count piece start i j left w g out k all fits =
+    let whole : take i reads ≡ reads = take_all i reads all in
+    let sum : count + j ≡ read_length reads + left = rw whole at k.sum in
+    let more = k.more in
+    omega arith
+
+module _ (base : ℕ) (reads : List ReadSegment) (count : ℕ) (piece start : List ℕ) (i j left : ℕ) (w : Run) (g : ℕ) (out : List ℕ) (k : Placing base reads count piece start i j left w g out)
+    (x : ReadSegment) (rest : drop i reads ≡ x ∷ drop (i + 1) reads) (b : ℕ) (e : b ≡ cond (eqb w.at x.position) w.length 0) where
+  there : SegmentAt reads i x
+  there = segment_at_lem reads i x (let all = length-drop i reads in let some : length (drop i reads) ≡ suc (length (drop (i + 1) reads)) = ap length rest in omega arith) rest
+
+  before : b ≡ position_length x.position (take i reads)
+  before = hand_before reads i w x rest k.hand b e
+
+  pub before_near : b ≤ i * 4294967296
+  before_near = rw e (by (eqb w.at x.position))
+    where
+      by : (t : Bool) → cond t w.length 0 ≤ i * 4294967296
+      by true = k.near
+      by false = omega arith
+
+  abbrev onward : Run
+  onward = run x.position (b + x.target.length)
+
+  pub passed_over : x.target.length ≤ left → x.target.length < 4294967296 → Placing base reads count piece start (i + 1) j (left - x.target.length) onward g out
+  passed_over le near =
+      let next = read_next reads i x there in
+      record { more = k.more; sum = omega (arith, k.sum); hand = hand_next reads i w x rest k.hand there b before; near = omega (arith, before_near); placed = k.placed; counted = k.counted }
+
+  module _ (c : LayoutChecked base reads) (p : BasePulled base reads) (lt : left < x.target.length) (m : ℕ) (share : m ≡ min (x.target.length - left) (length piece - j)) where
+    some : 0 < m
+    some = let more = k.more in omega arith
+
+    pub most : (left + m ≤ x.target.length) × (j + m ≤ length piece)
+    most = let more = k.more in (omega arith, omega arith)
+
+    part : PartAt base reads (take i reads) i x left m
+    part = part_at base reads i x c p there left m some most.0
+
+    cut : (take (j + m - j) (drop j piece) ≡ take m (drop j piece)) × (length (take m (drop j piece)) ≡ m)
+    cut = part_length j m piece most.1
+
+    pub part_asks : message_length base (other_chunks reads) ≤ length out → PartWithin base (length out) x.position (b + left) (length (take (j + m - j) (drop j piece))) × (0 < length (take (j + m - j) (drop j piece)))
+    part_asks room = (rw (cut.0, cut.1, before) (part.within (length out) room), rw (cut.0, cut.1) some)
+
+    -- What is there behind the part.
+    module _ (r : ℕ) (after : List ℕ) (answer : r ≡ goes (of_segment 0 (part_places base (other_chunks reads) x.position (b + left) (length (take (j + m - j) (drop j piece))))))
+        (buffer : after ≡ scatter (part_places base (other_chunks reads) x.position (b + left) (length (take (j + m - j) (drop j piece)))) (take (j + m - j) (drop j piece)) out) where
+      put : after ≡ scatter (drop count (read_places base reads)) (take (j + m) piece) start
+      put = part_placed base reads (take i reads) i x left m part count j k.sum piece k.more some share start out after k.placed (rw (cut.0, cut.1, before) at buffer)
+
+      pub went : g + r + goes (take (length piece - (j + m)) (drop (count + (j + m)) (bytes_of base reads))) ≡ goes (take (length piece) (drop count (bytes_of base reads)))
+      went = part_counted base reads (take i reads) i x left m part count j k.sum piece k.more some share g _ r k.counted (rw (cut.0, cut.1, before) at answer)
+
+      pub all_placed : j + m ≡ length piece → (g + r ≡ goes (take (length piece) (drop count (bytes_of base reads)))) × (after ≡ scatter (drop count (read_places base reads)) piece start)
+      all_placed all = (finished (g + r) _ (j + m) piece (count + (j + m)) (bytes_of base reads) (omega arith) went, put ∙ rw (all, take-length))
+
+      pub placed_on : (j + m ≡ length piece → ⊥) → x.target.length < 4294967296 → Placing base reads count piece start (i + 1) (j + m) 0 onward (g + r) after
+      placed_on other near =
+          let fits = most in
+          let all : left + m ≡ x.target.length = (let more = k.more in omega arith) in
+          let next = read_next reads i x there in
+          record { more = omega arith; sum = omega (arith, k.sum); hand = hand_next reads i w x rest k.hand there b before; near = omega (arith, before_near); placed = put; counted = went }

@@ -195,11 +195,6 @@ piece_none i ps piece e = rw e
 pub piece_goes_lem : (i k n : ℕ) (ps : List ℕ) → goes (of_segment i (take n (drop k ps))) ≤ n
 piece_goes_lem i k n ps = let most : min n (length (drop k ps)) ≤ n = omega arith in omega (arith, goes_length (of_segment i (take n (drop k ps))), length_bytes i (take n (drop k ps)), length-take n (drop k ps))
 
--- No bytes go into a gap that has ended.
-pub gap_none : (here end : ℕ) (rest out : List ℕ) → end ≤ here → (0 ≡ min (end - here) (length rest)) × (out ≡ stored out here (take (min (end - here) (length rest)) rest))
-unfolding stored
-gap_none here end rest out h = let none : min (end - here) (length rest) ≡ 0 = omega arith in (sym none, rw none)
-
 -- What a step of `place_base` makes: m bytes of a piece, behind its first j, come to their own places in one go or none; where the piece has more bytes, the next one is sought.
 pub record GapStep (all : List ℕ) (count j m place : ℕ) (piece before out : List ℕ) (g whole : ℕ) (Next : Type 0) : Type 0 where
   pub placed : (after : List ℕ) → after ≡ stored out place (take m (drop j piece)) → after ≡ scatter (drop count all) (take (j + m) piece) before
@@ -302,9 +297,6 @@ one_more g rest whole r m a b e = rw e (by (eqb m 0))
 
 pub last_fits : (count j earlier size pieces base message same room kept : ℕ) → count + j + (earlier + size) + (base - (count + j)) ≤ message → count + pieces ≤ base → j < pieces → message ≡ same → same ≤ room → kept ≡ room → count + j + earlier + size + (pieces - j) ≤ kept
 last_fits count j earlier size pieces base message same room kept a b c d e f = omega arith
-
-pub less_left : (i n : ℕ) → i < n → n - (i + 1) < n - i
-less_left i n h = omega arith
 
 pub not_all : (j m far size : ℕ) → m ≡ min far (size - j) → j < size → (j + m ≡ size → ⊥) → j + m < size
 not_all j m far size e h n = omega arith

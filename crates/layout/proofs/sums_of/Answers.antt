@@ -1,31 +1,19 @@
--- `layout::sums_of` meets its contract.
-use mathlib.Core.Path.{◌≡◌, sym, ◌∙◌}
-use native.Mathlib.Omega.{arith}
-use borrow.Author.Rules.{rules}
-use lib.ListN.{length, take, get_or}
-use lib.Seq.{length-take-le, get_or-take}
-use Rattle.wire.specs.Wire.{zero_read_segment}
-use Rattle.chunk_lists.specs.Words.{reads_in}
-use Rattle.chunk_lists.proofs.Words.{length_reads}
+-- A segment more.
+use Rattle.std.proofs.Common.{◌≡◌, false, rules}
+use Rattle.chunk_lists.proofs.Words.{next_in, none_in}
 use Rattle.layout.proofs.Summing.{summed_start, summed_ready, summed_next, summed_all}
 use Rattle.layout.proofs.sums_of.Goals as goal
 
 pub loop-i-init : goal.loop-i-init
-loop-i-init c = (search rules, summed_start _)
+loop-i-init c = let e : c.default-sums.result ≡ record { zero_length = 0; any_zero = false; all_length = 0 } = search rules in rw e (summed_start _)
 
-pub add_sums-s-requires : goal.add_sums-s-requires
-add_sums-s-requires c = let few = c.requires in summed_ready _ _ _ (omega arith) c.loop-i.invariant.1
+pub with-sums-requires : goal.with-sums-requires
+with-sums-requires c = summed_ready _ _ _ (search rules) c.loop-i.invariant
 
 pub loop-i-preserved : goal.loop-i-preserved
-loop-i-preserved c = let a = c.args in
-    let full = length_reads a.words.now in
-    let long = length-take-le a.n (reads_in a.words.now) (omega arith) in
-    let x : c.read_segment_of-x.result ≡ get_or (take a.n (reads_in a.words.now)) c.loop-i.i zero_read_segment = c.read_segment_of-x.ensures ∙ sym (get_or-take a.n (reads_in a.words.now) c.loop-i.i zero_read_segment c.loop-i-test.true) in
-    (search rules, summed_next _ _ _ _ (omega arith) c.loop-i.invariant.1 (rw x at c.add_sums-s.ensures.0) (rw x at c.add_sums-s.ensures.1))
+loop-i-preserved c =
+    let here = next_in c.args.words.now c.args.n c.loop-i.i _ c.read_segment_of.ensures c.loop-i-test.true c.requires.0 in
+    summed_next _ _ _ _ _ here c.loop-i.invariant c.with-sums.ensures.0 c.with-sums.ensures.1
 
 pub returns : goal.returns
-returns c = let a = c.args in
-    let full = length_reads a.words.now in
-    let long = length-take-le a.n (reads_in a.words.now) (omega arith) in
-    let e : c.loop-i.i ≡ length (take a.n (reads_in a.words.now)) = omega arith in
-    summed_all _ _ (rw e at c.loop-i.invariant.1)
+returns c = summed_all _ _ _ (none_in c.args.words.now c.args.n c.loop-i.i c.loop-i-test.false c.requires.0) c.loop-i.invariant

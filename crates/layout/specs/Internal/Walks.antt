@@ -1,18 +1,14 @@
 -- What the functions under the layout answer, from the definitions.
-use Rattle.std.specs.Prelude.{ℕ, ◌+◌, ◌<◌, Bool, true, cond, ◌&&◌, List, [], ◌∷◌, eqb}
+use Rattle.std.specs.Prelude.{ℕ, ◌+◌, ◌-◌, ◌<◌, ◌≤◌, Bool, true, cond, ◌&&◌, List, [], ◌∷◌, eqb, leb, Option, Some, None, Result, Ok, Err}
 use Rattle.wire.specs.declared.ReadSegment.{ReadSegment}
 use Rattle.chunk_lists.specs.Lists.{all_aligned}
 use Rattle.read_order.specs.ReadOrder.{is_sorted}
 use Rattle.header.specs.declared.Kind.{Kind}
-use Rattle.layout.specs.Layout.{run, any_at_zero, zero_length, other_chunks, rounded_total, stands, message_length, place_number}
+use Rattle.layout.specs.Layout.{run, any_at_zero, zero_length, other_chunks, rounded_up, rounded_total, stands, message_length, place_number}
 use Rattle.layout.specs.declared.Run.{Run}
 use Rattle.layout.specs.declared.Sums.{Sums}
-use Rattle.layout.specs.declared.ChunkCheck.{ChunkCheck}
-use Rattle.layout.specs.declared.ChunkCheck.TheVariants.{Stands, Overlaps}
-use Rattle.layout.specs.declared.ReadsCheck.{ReadsCheck}
-use Rattle.layout.specs.declared.ReadsCheck.TheVariants.{Fine, Faulty}
-use Rattle.layout.specs.declared.LayoutCheck.{LayoutCheck}
-use Rattle.layout.specs.declared.LayoutCheck.TheVariants.{Holds, Refused}
+use Rattle.layout.specs.declared.Standing.{Standing}
+use Rattle.layout.specs.declared.ReadsFound.{ReadsFound}
 
 -- The bytes of chunks together: L1 + L2 + ..
 unfoldable pub total_length : List Run → ℕ
@@ -49,19 +45,35 @@ pub record Near (x : ReadSegment) : Type 0 where
   pub near_position : x.position < 4294967296
   pub near_length : x.target.length < 4294967296
 
+-- The chunks behind a segment more, if it stands at or behind the end of the former chunk and within the base.
+unfoldable pub standing_step : ℕ → Standing → ReadSegment → Option Standing
+standing_step base w x =
+    cond (leb (w.hand.at + rounded_up (ended_length w.hand x)) x.position && leb (x.position - (w.earlier + rounded_up (ended_length w.hand x))) base)
+    (Some (record { hand = joined_run w.hand x; earlier = w.earlier + rounded_up (ended_length w.hand x) })) None
+
+-- All rounded lengths, behind the last segment.
+abbrev pub standing_length : Standing → ℕ
+standing_length w = w.earlier + rounded_up w.hand.length
+
+-- The numbers of a walk over at most 16 segments: no sum of a step wraps.
+pub record Standable (w : Standing) : Type 0 where
+  pub within : w.earlier ≤ w.hand.at
+  pub at : w.hand.at ≤ 4294967295
+  pub sum : w.earlier + w.hand.length ≤ 68719476800
+
 -- The chunks stand, with the sum of their rounded lengths.
-abbrev pub chunk_check : ℕ → List Run → ChunkCheck
-chunk_check base cs = cond (stands base 0 0 cs) (Stands (rounded_total cs)) Overlaps
+abbrev pub chunk_check : ℕ → List Run → Option ℕ
+chunk_check base cs = cond (stands base 0 0 cs) (Some (rounded_total cs)) None
 
 -- The list is sorted, its positions are multiples of 4 and its chunks stand: with the sums of its segments and of its chunks.
-unfoldable pub reads_check : ℕ → List ReadSegment → ReadsCheck
+unfoldable pub reads_check : ℕ → List ReadSegment → Option ReadsFound
 reads_check base reads =
-    cond (is_sorted reads && (all_aligned reads && stands base 0 0 (other_chunks reads))) (Fine (record { sums = sums_of reads; chunks = rounded_total (other_chunks reads) })) Faulty
+    cond (is_sorted reads && (all_aligned reads && stands base 0 0 (other_chunks reads))) (Some (record { sums = sums_of reads; chunks = rounded_total (other_chunks reads) })) None
 
 -- The length of the message, or the number of the check that fails.
-unfoldable pub layout_check : Kind → ℕ → Bool → List Run → ℕ → LayoutCheck
-layout_check kind base atZero cs room = cond (eqb (place_number kind atZero base cs room) 0) (Holds (message_length base cs)) (Refused (place_number kind atZero base cs room))
+unfoldable pub layout_check : Kind → ℕ → Bool → List Run → ℕ → Result ℕ ℕ
+layout_check kind base atZero cs room = cond (eqb (place_number kind atZero base cs room) 0) (Ok (message_length base cs)) (Err (place_number kind atZero base cs room))
 
-abbrev pub layout_number : LayoutCheck → ℕ
-layout_number (Holds message) = 0
-layout_number (Refused number) = number
+abbrev pub layout_number : Result ℕ ℕ → ℕ
+layout_number (Ok message) = 0
+layout_number (Err number) = number

@@ -1,11 +1,12 @@
 -- `placing::clear_paddings` meets its contract.
-use mathlib.Core.Path.{refl, ap, ◌∙◌}
+use mathlib.Core.Path.{◌≡◌, refl, ap, ◌∙◌}
 use Prim.Native.Nat.{◌+◌}
 use native.Mathlib.Omega.{arith}
 use borrow.Author.Rules.{rules}
 use lib.ListN.{length, take, drop}
 use Rattle.chunk_lists.specs.Words.{reads_in}
 use Rattle.chunk_lists.proofs.Words.{length_reads}
+use Rattle.layout.specs.Layout.{run}
 use Rattle.layout.specs.Internal.Walks.{ended_length}
 use Rattle.placing.proofs.Sources.{padded_start, padded_next, padded_last, ended_within, last_within}
 use Rattle.layout.proofs.Scatter.{length_scatter}
@@ -14,7 +15,7 @@ use Rattle.layout.proofs.ChunkWalk.{along_start, Here, here, Behind, behind_all}
 use Rattle.placing.proofs.clear_paddings.Goals as goal
 
 pub loop-i-init : goal.loop-i-init
-loop-i-init c = (search rules, along_start _ c.requires.1.rise, refl, padded_start _ _)
+loop-i-init c = let first : c.default-w.result ≡ run 0 0 = search rules in rw first (search rules, along_start _ c.requires.1.rise, refl, padded_start _ _)
 
 pub overflow_add-w : goal.overflow_add-w
 overflow_add-w c = let known : Here (drop c.loop-i.i (take c.args.n (reads_in c.args.words.now))) (drop (c.loop-i.i + 1) (take c.args.n (reads_in c.args.words.now))) c.loop-i.i 0 c.loop-i.w c.read_segment_of-x.result = let at = c.loop-i in here _ at.i _ _ at.w (length_reads _) c.requires.0 at.invariant.1 _ c.read_segment_of-x.ensures c.loop-i-test.true in
@@ -35,9 +36,6 @@ clear_at-requires c = let known : Here (drop c.loop-i.i (take c.args.n (reads_in
     let up = (rounded_most (ended_length at.w c.read_segment_of-x.result)).0 in
     omega arith
 
-pub joined-w-requires : goal.joined-w-requires
-joined-w-requires c = omega arith
-
 pub loop-i-preserved : goal.loop-i-preserved
 loop-i-preserved c = let known : Here (drop c.loop-i.i (take c.args.n (reads_in c.args.words.now))) (drop (c.loop-i.i + 1) (take c.args.n (reads_in c.args.words.now))) c.loop-i.i 0 c.loop-i.w c.read_segment_of-x.result = let at = c.loop-i in here _ at.i _ _ at.w (length_reads _) c.requires.0 at.invariant.1 _ c.read_segment_of-x.ensures c.loop-i-test.true in
     let at = c.loop-i in
@@ -45,12 +43,6 @@ loop-i-preserved c = let known : Here (drop c.loop-i.i (take c.args.n (reads_in 
     let e = c.ended_length-length.ensures in
     let next = padded_next _ at.w _ _ _ _ h.walk (rw h.rest at at.invariant.3) _ _ (rw e at c.padding.ensures.0) (rw e at c.clear_at.ensures) in
     (search rules, h.onward 0 _ (omega arith) c.joined-w.ensures.0 c.joined-w.ensures.1, ap length next.filled ∙ length_scatter _ _ _, rw c.joined-w.ensures.0 next)
-
-pub overflow_add-w-2 : goal.overflow_add-w-2
-overflow_add-w-2 c = omega arith
-
-pub padding-requires-2 : goal.padding-requires-2
-padding-requires-2 c = omega arith
 
 pub clear_at-requires-2 : goal.clear_at-requires-2
 clear_at-requires-2 c = let behind : Behind (drop c.loop-i.i (take c.args.n (reads_in c.args.words.now))) c.loop-i.i 0 c.loop-i.w = let at = c.loop-i in behind_all _ at.i _ _ at.w (length_reads _) c.requires.0 at.invariant.1 (omega arith) at.invariant.0 in

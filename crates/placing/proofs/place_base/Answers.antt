@@ -16,7 +16,7 @@ use Rattle.layout.proofs.ChunkWalk.{along_start, Here, Behind}
 use Rattle.layout.proofs.RunWalk.{GapRun, GapSought, gap_start, gap_last}
 use Rattle.placing.specs.Goes.{of_segment, goes}
 use Rattle.placing.proofs.EmptySegments.{non_empty, PassedOver, passed_over_lem, some_here, same_rest, empty_here, none_to_come}
-use Rattle.placing.proofs.Sources.{placed_empty, piece_none, piece_goes_lem, GapStep, gap_step, step_within, last_placed, last_counted, fits_in, one_more, last_fits, less_left, not_all, seek_within, within_base}
+use Rattle.placing.proofs.Sources.{placed_empty, piece_none, piece_goes_lem, GapStep, gap_step, step_within, last_placed, last_counted, fits_in, one_more, last_fits, not_all, seek_within, within_base}
 use Rattle.placing.proofs.place_base.Invariants.{list, some_places}
 use Rattle.placing.proofs.place_base.Goals as goal
 
@@ -30,33 +30,28 @@ returns-then-size-eq0 c = record { answer = piece_none _ _ c.args.piece.now c.if
 pub loop-i-init : goal.loop-i-init
 loop-i-init c = let over : PassedOver c.args.base (list c.args.words.now c.args.n) = passed_over_lem _ _ c.requires.1.rise c.requires.1.stand in
     let o = over in
-    (search rules, along_start _ o.rise, refl, omega arith, sym (scatter_none _ _), rw add-zero (gap_start _ _ _ o.stand o.solids), rw (add-zero, sub-zero) (omega arith))
+    let first : c.default-w.result ≡ run 0 0 = search rules in
+    rw first (search rules, along_start _ o.rise, refl, omega arith, sym (scatter_none _ _), rw add-zero (gap_start _ _ _ o.stand o.solids), rw (add-zero, sub-zero) (omega arith))
 
-pub loop-i-smaller-then-target-eq0 : goal.loop-i-smaller-then-target-eq0
-loop-i-smaller-then-target-eq0 c = omega arith
-
-pub loop-i-preserved-then-target-eq0 : goal.loop-i-preserved-then-target-eq0
-loop-i-preserved-then-target-eq0 c = let rest = same_rest _ c.loop-i.i _ _ c.loop-i.w (length_reads _) c.requires.0 c.loop-i.invariant.1 _ c.read_segment_of-x.ensures c.loop-i-test.true c.if-target-eq0.true in
-    (omega arith, empty_here _ c.loop-i.i _ _ c.loop-i.w (length_reads _) c.requires.0 c.loop-i.invariant.1 _ c.read_segment_of-x.ensures c.loop-i-test.true c.if-target-eq0.true, c.loop-i.invariant.2, c.loop-i.invariant.3, c.loop-i.invariant.4, rw rest at c.loop-i.invariant.5, c.loop-i.invariant.6)
+pub loop-i-preserved-then-x-eq0 : goal.loop-i-preserved-then-x-eq0
+loop-i-preserved-then-x-eq0 c = let rest = same_rest _ c.loop-i.i _ _ c.loop-i.w (length_reads _) c.requires.0 c.loop-i.invariant.1 _ c.read_segment_of-x.ensures c.loop-i-test.true c.if-x-eq0.true in
+    (omega arith, empty_here _ c.loop-i.i _ _ c.loop-i.w (length_reads _) c.requires.0 c.loop-i.invariant.1 _ c.read_segment_of-x.ensures c.loop-i-test.true c.if-x-eq0.true, c.loop-i.invariant.2, c.loop-i.invariant.3, c.loop-i.invariant.4, rw rest at c.loop-i.invariant.5, c.loop-i.invariant.6)
 
 pub rounded-earlier-requires : goal.rounded-earlier-requires
-rounded-earlier-requires c = let known : Here (non_empty (drop c.loop-i.i (list c.args.words.now c.args.n))) (non_empty (drop (c.loop-i.i + 1) (list c.args.words.now c.args.n))) c.loop-i.i c.loop-i.earlier c.loop-i.w c.read_segment_of-x.result = some_here _ c.loop-i.i _ _ c.loop-i.w (length_reads _) c.requires.0 c.loop-i.invariant.1 _ c.read_segment_of-x.ensures c.loop-i-test.true c.if-target-eq0.false in
+rounded-earlier-requires c = let known : Here (non_empty (drop c.loop-i.i (list c.args.words.now c.args.n))) (non_empty (drop (c.loop-i.i + 1) (list c.args.words.now c.args.n))) c.loop-i.i c.loop-i.earlier c.loop-i.w c.read_segment_of-x.result = some_here _ c.loop-i.i _ _ c.loop-i.w (length_reads _) c.requires.0 c.loop-i.invariant.1 _ c.read_segment_of-x.ensures c.loop-i-test.true c.if-x-eq0.false in
     let h = known in rw c.ended_length.ensures (omega arith)
 
 pub overflow_add-earlier : goal.overflow_add-earlier
-overflow_add-earlier c = let known : Here (non_empty (drop c.loop-i.i (list c.args.words.now c.args.n))) (non_empty (drop (c.loop-i.i + 1) (list c.args.words.now c.args.n))) c.loop-i.i c.loop-i.earlier c.loop-i.w c.read_segment_of-x.result = some_here _ c.loop-i.i _ _ c.loop-i.w (length_reads _) c.requires.0 c.loop-i.invariant.1 _ c.read_segment_of-x.ensures c.loop-i-test.true c.if-target-eq0.false in
+overflow_add-earlier c = let known : Here (non_empty (drop c.loop-i.i (list c.args.words.now c.args.n))) (non_empty (drop (c.loop-i.i + 1) (list c.args.words.now c.args.n))) c.loop-i.i c.loop-i.earlier c.loop-i.w c.read_segment_of-x.result = some_here _ c.loop-i.i _ _ c.loop-i.w (length_reads _) c.requires.0 c.loop-i.invariant.1 _ c.read_segment_of-x.ensures c.loop-i-test.true c.if-x-eq0.false in
     let h = known in omega arith
 
-pub overflow_add-here : goal.overflow_add-here
-overflow_add-here c = omega arith
-
 pub overflow_add-here-in-loop-i : goal.overflow_add-here-in-loop-i
-overflow_add-here-in-loop-i c = let known : Here (non_empty (drop c.loop-i.i (list c.args.words.now c.args.n))) (non_empty (drop (c.loop-i.i + 1) (list c.args.words.now c.args.n))) c.loop-i.i c.loop-i.earlier c.loop-i.w c.read_segment_of-x.result = some_here _ c.loop-i.i _ _ c.loop-i.w (length_reads _) c.requires.0 c.loop-i.invariant.1 _ c.read_segment_of-x.ensures c.loop-i-test.true c.if-target-eq0.false in
+overflow_add-here-in-loop-i c = let known : Here (non_empty (drop c.loop-i.i (list c.args.words.now c.args.n))) (non_empty (drop (c.loop-i.i + 1) (list c.args.words.now c.args.n))) c.loop-i.i c.loop-i.earlier c.loop-i.w c.read_segment_of-x.result = some_here _ c.loop-i.i _ _ c.loop-i.w (length_reads _) c.requires.0 c.loop-i.invariant.1 _ c.read_segment_of-x.ensures c.loop-i-test.true c.if-x-eq0.false in
     let h = known in omega arith
 
 pub place_gap-m-requires : goal.place_gap-m-requires
 place_gap-m-requires c = let over : PassedOver c.args.base (list c.args.words.now c.args.n) = passed_over_lem _ _ c.requires.1.rise c.requires.1.stand in
-    let known : Here (non_empty (drop c.loop-i.i (list c.args.words.now c.args.n))) (non_empty (drop (c.loop-i.i + 1) (list c.args.words.now c.args.n))) c.loop-i.i c.loop-i.earlier c.loop-i.w c.read_segment_of-x.result = some_here _ c.loop-i.i _ _ c.loop-i.w (length_reads _) c.requires.0 c.loop-i.invariant.1 _ c.read_segment_of-x.ensures c.loop-i-test.true c.if-target-eq0.false in
+    let known : Here (non_empty (drop c.loop-i.i (list c.args.words.now c.args.n))) (non_empty (drop (c.loop-i.i + 1) (list c.args.words.now c.args.n))) c.loop-i.i c.loop-i.earlier c.loop-i.w c.read_segment_of-x.result = some_here _ c.loop-i.i _ _ c.loop-i.w (length_reads _) c.requires.0 c.loop-i.invariant.1 _ c.read_segment_of-x.ensures c.loop-i-test.true c.if-x-eq0.false in
     let ended : c.rounded-earlier.result ≡ rounded_up (ended_length c.loop-i.w c.read_segment_of-x.result) = rw (← c.ended_length.ensures) c.rounded-earlier.ensures.0 in
     let h = known in
     let o = over in
@@ -64,45 +59,27 @@ place_gap-m-requires c = let over : PassedOver c.args.base (list c.args.words.no
     let same = o.same_message in
     let kept = c.loop-i.invariant.2 in
     let large = c.requires.2 in
-    rw (part_from c.loop-i.j c.args.piece.now, length-drop, c.wide-position.ensures.0) (fits_in _ _ _ _ _ room same large kept)
+    rw (part_from c.loop-i.j c.args.piece.now, length-drop) (fits_in _ _ _ _ _ room same large kept)
 
 pub overflow_add-goes : goal.overflow_add-goes
 overflow_add-goes c = let few : goes (of_segment 0 (take (length c.args.piece.now) (drop c.args.count (some_places c.args.words.now c.args.n c.args.base)))) ≤ 1048576 = omega (arith, piece_goes_lem 0 c.args.count (length c.args.piece.now) (some_places c.args.words.now c.args.n c.args.base), c.requires.1.small, c.requires.3) in
     record { fits = one_more _ _ _ _ c.place_gap-m.result c.loop-i.invariant.6 few c.goes_for-goes.ensures }
 
-pub overflow_add-j : goal.overflow_add-j
-overflow_add-j c = let share : c.place_gap-m.result ≡ min (c.read_segment_of-x.result.position - (c.args.count + c.loop-i.j + (c.loop-i.earlier + c.rounded-earlier.result))) (length c.args.piece.now - c.loop-i.j) = rw (← c.wide-position.ensures.0, ← (length-drop c.loop-i.j c.args.piece.now), ← (part_from c.loop-i.j c.args.piece.now)) c.place_gap-m.ensures.answer in
-    let s = share in let more = c.loop-i.invariant.3 in record { fits = omega arith }
-
-pub shape_of-out-then-j-size : goal.shape_of-out-then-j-size
-shape_of-out-then-j-size c = let known : Here (non_empty (drop c.loop-i.i (list c.args.words.now c.args.n))) (non_empty (drop (c.loop-i.i + 1) (list c.args.words.now c.args.n))) c.loop-i.i c.loop-i.earlier c.loop-i.w c.read_segment_of-x.result = some_here _ c.loop-i.i _ _ c.loop-i.w (length_reads _) c.requires.0 c.loop-i.invariant.1 _ c.read_segment_of-x.ensures c.loop-i-test.true c.if-target-eq0.false in
-    let ended : c.rounded-earlier.result ≡ rounded_up (ended_length c.loop-i.w c.read_segment_of-x.result) = rw (← c.ended_length.ensures) c.rounded-earlier.ensures.0 in
-    let share : c.place_gap-m.result ≡ min (c.read_segment_of-x.result.position - (c.args.count + c.loop-i.j + (c.loop-i.earlier + c.rounded-earlier.result))) (length c.args.piece.now - c.loop-i.j) = rw (← c.wide-position.ensures.0, ← (length-drop c.loop-i.j c.args.piece.now), ← (part_from c.loop-i.j c.args.piece.now)) c.place_gap-m.ensures.answer in
-    let step : GapStep (some_places c.args.words.now c.args.n c.args.base) c.args.count c.loop-i.j c.place_gap-m.result (c.args.count + c.loop-i.j + (c.loop-i.earlier + c.rounded-earlier.result)) c.args.piece.now c.args.out.now c.loop-i.out c.loop-i.goes (goes (of_segment 0 (take (length c.args.piece.now) (drop c.args.count (some_places c.args.words.now c.args.n c.args.base))))) (GapSought c.args.base (other_chunks (non_empty (list c.args.words.now c.args.n))) (c.args.count + (c.loop-i.j + c.place_gap-m.result)) (c.loop-i.earlier + c.rounded-earlier.result) (joined_run c.loop-i.w c.read_segment_of-x.result) (non_empty (drop (c.loop-i.i + 1) (list c.args.words.now c.args.n)))) = let h = known in gap_step c.args.base _ c.loop-i.w c.loop-i.earlier c.read_segment_of-x.result _ h.walk c.args.count c.loop-i.j (rw h.rest at c.loop-i.invariant.5) _ ended c.args.piece.now c.loop-i.invariant.3 _ share _ c.loop-i.out c.loop-i.goes _ c.loop-i.invariant.4 c.loop-i.invariant.6 in
-    let put : c.place_gap-m.new.out ≡ scatter (drop c.args.count (some_places c.args.words.now c.args.n c.args.base)) (take (c.loop-i.j + c.place_gap-m.result) c.args.piece.now) c.args.out.now = step.placed _ (rw (← c.place_gap-m.ensures.answer, part_from c.loop-i.j c.args.piece.now) at c.place_gap-m.ensures.buffer) in
-    ap length put ∙ length_scatter _ _ _
-
 pub returns-then-j-size : goal.returns-then-j-size
 returns-then-j-size c = clauses (let over : PassedOver c.args.base (list c.args.words.now c.args.n) = passed_over_lem _ _ c.requires.1.rise c.requires.1.stand in
-    let known : Here (non_empty (drop c.loop-i.i (list c.args.words.now c.args.n))) (non_empty (drop (c.loop-i.i + 1) (list c.args.words.now c.args.n))) c.loop-i.i c.loop-i.earlier c.loop-i.w c.read_segment_of-x.result = some_here _ c.loop-i.i _ _ c.loop-i.w (length_reads _) c.requires.0 c.loop-i.invariant.1 _ c.read_segment_of-x.ensures c.loop-i-test.true c.if-target-eq0.false in
+    let known : Here (non_empty (drop c.loop-i.i (list c.args.words.now c.args.n))) (non_empty (drop (c.loop-i.i + 1) (list c.args.words.now c.args.n))) c.loop-i.i c.loop-i.earlier c.loop-i.w c.read_segment_of-x.result = some_here _ c.loop-i.i _ _ c.loop-i.w (length_reads _) c.requires.0 c.loop-i.invariant.1 _ c.read_segment_of-x.ensures c.loop-i-test.true c.if-x-eq0.false in
     let ended : c.rounded-earlier.result ≡ rounded_up (ended_length c.loop-i.w c.read_segment_of-x.result) = rw (← c.ended_length.ensures) c.rounded-earlier.ensures.0 in
-    let share : c.place_gap-m.result ≡ min (c.read_segment_of-x.result.position - (c.args.count + c.loop-i.j + (c.loop-i.earlier + c.rounded-earlier.result))) (length c.args.piece.now - c.loop-i.j) = rw (← c.wide-position.ensures.0, ← (length-drop c.loop-i.j c.args.piece.now), ← (part_from c.loop-i.j c.args.piece.now)) c.place_gap-m.ensures.answer in
+    let share : c.place_gap-m.result ≡ min (c.read_segment_of-x.result.position - (c.args.count + c.loop-i.j + (c.loop-i.earlier + c.rounded-earlier.result))) (length c.args.piece.now - c.loop-i.j) = rw (← (length-drop c.loop-i.j c.args.piece.now), ← (part_from c.loop-i.j c.args.piece.now)) c.place_gap-m.ensures.answer in
     let step : GapStep (some_places c.args.words.now c.args.n c.args.base) c.args.count c.loop-i.j c.place_gap-m.result (c.args.count + c.loop-i.j + (c.loop-i.earlier + c.rounded-earlier.result)) c.args.piece.now c.args.out.now c.loop-i.out c.loop-i.goes (goes (of_segment 0 (take (length c.args.piece.now) (drop c.args.count (some_places c.args.words.now c.args.n c.args.base))))) (GapSought c.args.base (other_chunks (non_empty (list c.args.words.now c.args.n))) (c.args.count + (c.loop-i.j + c.place_gap-m.result)) (c.loop-i.earlier + c.rounded-earlier.result) (joined_run c.loop-i.w c.read_segment_of-x.result) (non_empty (drop (c.loop-i.i + 1) (list c.args.words.now c.args.n)))) = let h = known in gap_step c.args.base _ c.loop-i.w c.loop-i.earlier c.read_segment_of-x.result _ h.walk c.args.count c.loop-i.j (rw h.rest at c.loop-i.invariant.5) _ ended c.args.piece.now c.loop-i.invariant.3 _ share _ c.loop-i.out c.loop-i.goes _ c.loop-i.invariant.4 c.loop-i.invariant.6 in
     let put : c.place_gap-m.new.out ≡ scatter (drop c.args.count (some_places c.args.words.now c.args.n c.args.base)) (take (c.loop-i.j + c.place_gap-m.result) c.args.piece.now) c.args.out.now = step.placed _ (rw (← c.place_gap-m.ensures.answer, part_from c.loop-i.j c.args.piece.now) at c.place_gap-m.ensures.buffer) in
     let s = step in
     rw over.same_places
     (rw c.goes_for-goes.ensures (s.finished c.if-j-size.true), put ∙ rw (c.if-j-size.true, take-length)))
 
-pub joined-w-requires : goal.joined-w-requires
-joined-w-requires c = omega arith
-
-pub loop-i-smaller : goal.loop-i-smaller
-loop-i-smaller c = let lt = c.loop-i-test.true in less_left _ _ lt
-
 pub loop-i-preserved : goal.loop-i-preserved
-loop-i-preserved c = let known : Here (non_empty (drop c.loop-i.i (list c.args.words.now c.args.n))) (non_empty (drop (c.loop-i.i + 1) (list c.args.words.now c.args.n))) c.loop-i.i c.loop-i.earlier c.loop-i.w c.read_segment_of-x.result = some_here _ c.loop-i.i _ _ c.loop-i.w (length_reads _) c.requires.0 c.loop-i.invariant.1 _ c.read_segment_of-x.ensures c.loop-i-test.true c.if-target-eq0.false in
+loop-i-preserved c = let known : Here (non_empty (drop c.loop-i.i (list c.args.words.now c.args.n))) (non_empty (drop (c.loop-i.i + 1) (list c.args.words.now c.args.n))) c.loop-i.i c.loop-i.earlier c.loop-i.w c.read_segment_of-x.result = some_here _ c.loop-i.i _ _ c.loop-i.w (length_reads _) c.requires.0 c.loop-i.invariant.1 _ c.read_segment_of-x.ensures c.loop-i-test.true c.if-x-eq0.false in
     let ended : c.rounded-earlier.result ≡ rounded_up (ended_length c.loop-i.w c.read_segment_of-x.result) = rw (← c.ended_length.ensures) c.rounded-earlier.ensures.0 in
-    let share : c.place_gap-m.result ≡ min (c.read_segment_of-x.result.position - (c.args.count + c.loop-i.j + (c.loop-i.earlier + c.rounded-earlier.result))) (length c.args.piece.now - c.loop-i.j) = rw (← c.wide-position.ensures.0, ← (length-drop c.loop-i.j c.args.piece.now), ← (part_from c.loop-i.j c.args.piece.now)) c.place_gap-m.ensures.answer in
+    let share : c.place_gap-m.result ≡ min (c.read_segment_of-x.result.position - (c.args.count + c.loop-i.j + (c.loop-i.earlier + c.rounded-earlier.result))) (length c.args.piece.now - c.loop-i.j) = rw (← (length-drop c.loop-i.j c.args.piece.now), ← (part_from c.loop-i.j c.args.piece.now)) c.place_gap-m.ensures.answer in
     let step : GapStep (some_places c.args.words.now c.args.n c.args.base) c.args.count c.loop-i.j c.place_gap-m.result (c.args.count + c.loop-i.j + (c.loop-i.earlier + c.rounded-earlier.result)) c.args.piece.now c.args.out.now c.loop-i.out c.loop-i.goes (goes (of_segment 0 (take (length c.args.piece.now) (drop c.args.count (some_places c.args.words.now c.args.n c.args.base))))) (GapSought c.args.base (other_chunks (non_empty (list c.args.words.now c.args.n))) (c.args.count + (c.loop-i.j + c.place_gap-m.result)) (c.loop-i.earlier + c.rounded-earlier.result) (joined_run c.loop-i.w c.read_segment_of-x.result) (non_empty (drop (c.loop-i.i + 1) (list c.args.words.now c.args.n)))) = let h = known in gap_step c.args.base _ c.loop-i.w c.loop-i.earlier c.read_segment_of-x.result _ h.walk c.args.count c.loop-i.j (rw h.rest at c.loop-i.invariant.5) _ ended c.args.piece.now c.loop-i.invariant.3 _ share _ c.loop-i.out c.loop-i.goes _ c.loop-i.invariant.4 c.loop-i.invariant.6 in
     let put : c.place_gap-m.new.out ≡ scatter (drop c.args.count (some_places c.args.words.now c.args.n c.args.base)) (take (c.loop-i.j + c.place_gap-m.result) c.args.piece.now) c.args.out.now = step.placed _ (rw (← c.place_gap-m.ensures.answer, part_from c.loop-i.j c.args.piece.now) at c.place_gap-m.ensures.buffer) in
     let h = known in
@@ -112,21 +89,6 @@ loop-i-preserved c = let known : Here (non_empty (drop c.loop-i.i (list c.args.w
     let grown = rw c.ended_length.ensures at c.rounded-earlier.ensures.2 in
     let joined = c.joined-w.ensures in
     (search rules, h.onward _ _ grown joined.0 joined.1, ap length after ∙ length_scatter _ _ _, further, after, rw joined.0 (s.next further), rw c.goes_for-goes.ensures s.counted)
-
-pub overflow_add-here-2 : goal.overflow_add-here-2
-overflow_add-here-2 c = omega arith
-
-pub overflow_add-here-3 : goal.overflow_add-here-3
-overflow_add-here-3 c = let behind : Behind (non_empty (drop c.loop-i.i (list c.args.words.now c.args.n))) c.loop-i.i c.loop-i.earlier c.loop-i.w = none_to_come _ c.loop-i.i _ _ c.loop-i.w (length_reads _) c.requires.0 c.loop-i.invariant.1 (omega arith) c.loop-i.invariant.0 in
-    let h = behind in omega arith
-
-pub rounded-requires : goal.rounded-requires
-rounded-requires c = let behind : Behind (non_empty (drop c.loop-i.i (list c.args.words.now c.args.n))) c.loop-i.i c.loop-i.earlier c.loop-i.w = none_to_come _ c.loop-i.i _ _ c.loop-i.w (length_reads _) c.requires.0 c.loop-i.invariant.1 (omega arith) c.loop-i.invariant.0 in
-    let h = behind in omega arith
-
-pub overflow_add-here-4 : goal.overflow_add-here-4
-overflow_add-here-4 c = let behind : Behind (non_empty (drop c.loop-i.i (list c.args.words.now c.args.n))) c.loop-i.i c.loop-i.earlier c.loop-i.w = none_to_come _ c.loop-i.i _ _ c.loop-i.w (length_reads _) c.requires.0 c.loop-i.invariant.1 (omega arith) c.loop-i.invariant.0 in
-    let h = behind in omega arith
 
 pub copy_at-requires : goal.copy_at-requires
 copy_at-requires c = let over : PassedOver c.args.base (list c.args.words.now c.args.n) = passed_over_lem _ _ c.requires.1.rise c.requires.1.stand in
