@@ -1,10 +1,14 @@
 -- What the checks of a state find.
 -- Assumes nothing.
 use mathlib.Core.Path.{◌≡◌, refl, sym, ap, ◌∙◌}
-use mathlib.Core.Bool.{Bool, true, false, ◌&&◌}
+use mathlib.Core.Bool.{Bool, true, false, and-false}
 use mathlib.Core.List.{List}
 use Prim.Native.Nat.{ℕ, ◌≤◌, ◌<◌}
 use native.Mathlib.Omega.{arith}
+use Rattle.std.specs.Prelude.{Some, None, Result, Ok, Err}
+use Rattle.std.specs.Result.{result_ok}
+use Rattle.answers.specs.Refusals.{numbered}
+use Rattle.answers.specs.declared.Refusal.{Refusal}
 use borrow.Author.Tests.{le-leb, lt-leb, eq-eqb, ne_eqb}
 use lib.ListN.{length}
 use Rattle.wire.specs.declared.ReadSegment.{ReadSegment}
@@ -13,28 +17,18 @@ use Rattle.read_order.specs.ReadOrder.{is_sorted}
 use Rattle.layout.specs.Layout.{message_length, any_at_zero, zero_length, base_length, place_number}
 use Rattle.layout.specs.Internal.Walks.{sums_of, reads_check, layout_check}
 use Rattle.layout.specs.declared.Sums.{Sums}
-use Rattle.layout.specs.declared.ReadsCheck.TheVariants.{Faulty}
-use Rattle.layout.specs.declared.LayoutCheck.{LayoutCheck}
-use Rattle.layout.specs.declared.LayoutCheck.TheVariants.{Holds, Refused}
 use Rattle.layout.proofs.ReadsWalk.{faulty_told}
 use Rattle.placing.specs.Internal.Sources.{BasePulled, read_places}
 use Rattle.placing.proofs.Segments.{pulled_read, base_pulled, read_length_lem}
 use Rattle.assembly_state.specs.State.{State}
 use Rattle.assembly.specs.Assembly.{reads_of, chunks_of, pulled_of, can_arise, fits_state}
 use Rattle.assembly.specs.Internal.StateCheck.{StateChecked}
-use Rattle.assembly.specs.declared.StateCheck.{StateCheck}
 use Rattle.layout.proofs.Passed.{Passed, place_passed, layout_holds, layout_refused}
 
-abbrev pub unfitting : StateCheck
-unfitting = record { message = 0; pulled = 0; fits = false }
-
-pub unfit_checked : (s : State) (room : ℕ) (r : StateCheck) → r ≡ unfitting → fits_state s room ≡ false → StateChecked s room r
-unfit_checked s room r e f =
-    record { fits = rw e (sym f); known = λ q. absurd (let z : false ≡ true = sym (ap (λ (x : StateCheck). x.fits) e) ∙ q in let n : ◌≡◌ {A = ℕ} 0 1 = cc in omega arith) }
-
-and_false : (b : Bool) → (b && false) ≡ false
-and_false true = refl
-and_false false = refl
+-- What gives no value was refused.
+pub refused_told : (r : Result ℕ Refusal) → result_ok r ≡ None → (e : Refusal) × (r ≡ Err e)
+refused_told (Ok n) e = absurd (grind arith)
+refused_told (Err e) none = (e, refl)
 
 module _ (s : State) (room : ℕ) where
   pub too_many : 16 < s.reads.count → fits_state s room ≡ false
@@ -42,7 +36,7 @@ module _ (s : State) (room : ℕ) where
   too_many h = simp (lt-leb _ _ h)
 
   -- A list that is not sorted, a position that is no multiple of 4, or chunks that do not stand.
-  pub faulty_list : s.reads.count ≤ 16 → reads_check s.base (reads_of s) ≡ Faulty → fits_state s room ≡ false
+  pub faulty_list : s.reads.count ≤ 16 → reads_check s.base (reads_of s) ≡ None → fits_state s room ≡ false
   unfolding can_arise
   faulty_list few e = by (is_sorted (reads_of s)) (all_aligned (reads_of s)) refl refl
     where
@@ -57,19 +51,19 @@ module _ (s : State) (room : ℕ) where
       by false b p q = simp (le-leb _ _ few, p)
 
   pub other_buffer : (s.buffer ≡ room → ⊥) → fits_state s room ≡ false
-  other_buffer h = simp (ne_eqb _ _ h) (and_false (can_arise s))
+  other_buffer h = simp (ne_eqb _ _ h) (and-false (can_arise s))
 
-  module _ (few : s.reads.count ≤ 16) (rise : is_sorted (reads_of s) ≡ true) (aligned : all_aligned (reads_of s) ≡ true) (same : s.buffer ≡ room) (sums : Sums) (summed : sums ≡ sums_of (reads_of s)) (m : LayoutCheck) (measured : m ≡ layout_check s.kind s.base sums.any_zero (chunks_of s) room) where
+  module _ (few : s.reads.count ≤ 16) (rise : is_sorted (reads_of s) ≡ true) (aligned : all_aligned (reads_of s) ≡ true) (same : s.buffer ≡ room) (sums : Sums) (summed : sums ≡ sums_of (reads_of s)) (m : Result ℕ Refusal) (measured : numbered m ≡ layout_check s.kind s.base sums.any_zero (chunks_of s) room) where
     same_number : place_number s.kind sums.any_zero s.base (chunks_of s) room ≡ place_number s.kind (any_at_zero (reads_of s)) s.base (chunks_of s) s.buffer
     same_number = rw (summed, same)
 
-    pub misplaced : (n : ℕ) → m ≡ Refused n → fits_state s room ≡ false
+    pub misplaced : (r : Refusal) → m ≡ Err r → fits_state s room ≡ false
     unfolding can_arise
-    misplaced n e =
-        let told = layout_refused s.kind s.base sums.any_zero (chunks_of s) room m measured n e in
+    misplaced r e =
+        let told = layout_refused s.kind s.base sums.any_zero (chunks_of s) room m measured r e in
         simp (le-leb _ _ few, rise, aligned, ne_eqb _ 0 (λ z. told.1 (told.0 ∙ same_number ∙ z)))
 
-    module _ (message : ℕ) (holds : m ≡ Holds message) where
+    module _ (message : ℕ) (holds : m ≡ Ok message) where
       told : (place_number s.kind sums.any_zero s.base (chunks_of s) room ≡ 0) × (message ≡ message_length s.base (chunks_of s))
       told = layout_holds s.kind s.base sums.any_zero (chunks_of s) room m measured message holds
 
@@ -106,15 +100,13 @@ module _ (s : State) (room : ℕ) where
           unfolding can_arise
           fit h = simp (le-leb _ _ few, rise, aligned, zero_number, eq-eqb _ _ (sym base_of_lem ∙ based), le-leb _ _ h, eq-eqb _ _ same)
 
-          pub fit_checked : (r : StateCheck) → s.taken ≤ sums.all_length → r ≡ record { message = message; pulled = sums.all_length; fits = true } → StateChecked s room r
-          fit_checked r h e =
+          pub fit_checked : s.taken ≤ sums.all_length → StateChecked s room (Some (record { message = message; pulled = sums.all_length }))
+          fit_checked h =
               let p = passed in
               let room_for = p.holds in
-              let long = p.long in
-              rw e
-              (record {
-                fits = sym (fit (rw pulled_of_lem at h));
-                known = λ q. record {
+              let long = p.long in (
+                fit (rw pulled_of_lem at h),
+                record {
                   count = few;
                   layout = record { rise = rise; stand = p.stand; small = omega arith };
                   message = told.1;
@@ -123,5 +115,5 @@ module _ (s : State) (room : ℕ) where
                   places = places_of;
                   pulled = pulled_of_lem;
                   taken = rw pulled_of_lem at h;
-                };
-              })
+                },
+              )

@@ -3,12 +3,15 @@
 use mathlib.Core.Path.{◌≡◌, refl, sym, ap, subst, ◌∙◌}
 use mathlib.Core.Bool.{Bool, true, false, cond}
 use mathlib.Core.List.{List, [], ◌++◌}
-use Prim.Native.Nat.{ℕ, ◌+◌, ◌-◌, ◌≤◌}
+use Prim.Native.Nat.{ℕ, ◌-◌, ◌≤◌}
 use native.Mathlib.Omega.{arith}
 use borrow.Author.Tests.{ne_eqb}
-use lib.ListN.{length, take, drop, replicate, length-drop}
+use lib.ListN.{length, take, drop, replicate}
 use lib.Seq.{take-append_seam, drop_at}
 use lib.Dec.{eqb}
+use Rattle.std.specs.Prelude.{Result, Ok, Err}
+use Rattle.answers.specs.Refusals.{numbered, outcome_number}
+use Rattle.answers.specs.declared.Refusal.{Refusal}
 use Rattle.wire.specs.Wire.{stored, zero_read_segment}
 use Rattle.wire.specs.declared.ReadSegment.{ReadSegment}
 use Rattle.chunk_lists.specs.Parsed.{Parsed, refused, done}
@@ -31,8 +34,6 @@ use Rattle.layout.specs.Layout.{kind_fits, any_at_zero, zero_length, other_chunk
 use Rattle.layout.specs.Internal.Walks.{sums_of, layout_check}
 use Rattle.layout.specs.declared.Run.{Run}
 use Rattle.layout.specs.declared.Sums.{Sums}
-use Rattle.layout.specs.declared.LayoutCheck.{LayoutCheck}
-use Rattle.layout.specs.declared.LayoutCheck.TheVariants.{Holds, Refused}
 use Rattle.placing.specs.Internal.Sources.{LayoutChecked}
 use Rattle.assembly_start.specs.Start.{base_of, start_number, start_state, start_writes, started_buffer, start_buffer, start_words}
 use Rattle.assembly_state.specs.Words.{parts_words, state_words}
@@ -49,6 +50,11 @@ padded_sorted : (n : ℕ) (l : List ReadSegment) → n ≡ length l → sorted_f
 padded_sorted n l e =
     ap (λ (k : ℕ). sorted_first k (padded 16 zero_read_segment l)) e
     ∙ rw (take-append_seam l (replicate (16 - length l) zero_read_segment), drop_at l (replicate (16 - length l) zero_read_segment) (length l) refl, length_sorted l)
+
+-- What is not Ok is an Err.
+only_err : {A E : Type 0} (m : Result A E) → ((x : A) → m ≡ Ok x → ⊥) → (r : E) × (m ≡ Err r)
+only_err (Ok x) other = absurd (other x refl)
+only_err (Err r) other = (r, refl)
 
 -- A frame that was found, its read list decoded into words, and these with the list sorted.
 module _ (s : List ℕ) (shape : Shape) (f : Found s shape) (words : List ℕ) (filled : words ≡ stored (replicate 104 0) 0 (reads_words f.content.reads))
@@ -92,13 +98,13 @@ module _ (s : List ℕ) (shape : Shape) (f : Found s shape) (words : List ℕ) (
   inline_is : drop shape.end s ≡ f.behind
   inline_is = (payload_part s shape f).1 ∙ rw f.read
 
-  inline_length : length s - shape.end ≡ length f.behind
-  inline_length = sym (length-drop shape.end s) ∙ ap length inline_is
+  inline_length : length (drop shape.end s) ≡ length f.behind
+  inline_length = ap length inline_is
 
   abbrev chunks : List Run
   chunks = other_chunks (take shape.reads segs)
 
-  module _ (sums : Sums) (summed : sums ≡ sums_of (take shape.reads segs)) (base : ℕ) (b : (reads : List ReadSegment) → sums.zero_length ≡ zero_length reads → base ≡ base_length shape.kind (length s - shape.end) reads) (room : ℕ) (m : LayoutCheck) (measured : m ≡ layout_check shape.kind base sums.any_zero chunks room) where
+  module _ (sums : Sums) (summed : sums ≡ sums_of (take shape.reads segs)) (base : ℕ) (b : (reads : List ReadSegment) → sums.zero_length ≡ zero_length reads → base ≡ base_length shape.kind (length (drop shape.end s)) reads) (room : ℕ) (m : Result ℕ Refusal) (measured : numbered m ≡ layout_check shape.kind base sums.any_zero chunks room) where
     sums_are : sums ≡ sums_of in_order
     sums_are = summed ∙ ap sums_of reads_are
 
@@ -122,20 +128,21 @@ module _ (s : List ℕ) (shape : Shape) (f : Found s shape) (words : List ℕ) (
         (λ i. place_number (kind_is i) (any_is i) (base_is i) (chunks_are i) room)
         ∙ ap (λ (p : Parsed Content). start_number p room) (sym f.read)
 
-    pub not_started_is : (n : ℕ) → m ≡ Refused n → (out w : List ℕ) → length out ≡ room → (n ≡ start_number (read_frame s) room) × ((w ≡ start_words (read_frame s) room w) × (out ≡ start_buffer (read_frame s) out))
+    pub not_started_is : (n : ℕ) → n ≡ outcome_number m → ((x : ℕ) → m ≡ Ok x → ⊥) → (out w : List ℕ) → length out ≡ room → (n ≡ start_number (read_frame s) room) × ((w ≡ start_words (read_frame s) room w) × (out ≡ start_buffer (read_frame s) out))
     unfolding start_words start_buffer
-    not_started_is n e out w l =
-        let told = layout_refused shape.kind base sums.any_zero chunks room m measured n e in
-        let same : n ≡ start_number (read_frame s) room = told.0 ∙ number_is in
+    not_started_is n e other out w l =
+        let r = only_err m other in
+        let told = layout_refused shape.kind base sums.any_zero chunks room m measured r.0 r.1 in
+        let same : n ≡ start_number (read_frame s) room = e ∙ told.0 ∙ number_is in
         let here : start_number (done content f.behind) room ≡ n = ap (λ (p : Parsed Content). start_number p room) (sym f.read) ∙ sym same in
-        simp (l, f.read, here, ne_eqb n 0 told.1) (refl, (refl, refl))
+        simp (l, f.read, here, ne_eqb n 0 (λ z. told.1 (sym e ∙ z))) (refl, (refl, refl))
 
-    module _ (message : ℕ) (holds : m ≡ Holds message) where
+    module _ (message : ℕ) (holds : m ≡ Ok message) where
       passes : place_number shape.kind sums.any_zero base chunks room ≡ 0
       passes = (layout_holds shape.kind base sums.any_zero chunks room m measured message holds).0
 
       -- What holds where a start is accepted.
-      pub start_layout : LayoutChecked base (take shape.reads segs) × (message_length base chunks ≤ room) × (length s ≤ shape.end + base)
+      pub start_layout : LayoutChecked base (take shape.reads segs) × (message_length base chunks ≤ room) × (length (drop shape.end s) ≤ base)
       start_layout =
           let p = place_passed shape.kind sums.any_zero base chunks room passes in
           let within = inline_within content.kind sums.any_zero f.behind content.reads (subst (λ (x : Kind). kind_fits x sums.any_zero ≡ true) kind_is p.fits) (nomsg_ends s content f.behind f.read) in

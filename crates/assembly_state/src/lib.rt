@@ -38,6 +38,9 @@ fn number_in(words: &[u32; 104], k: usize) -> usize
     wire::join_words(words[k + 1], words[k]) as usize
 }
 
+// No state that can arise is of an ERROR header: a number that is neither MSG nor NOMSG stands for one.
+// Stays: a function and no From; both `u32` and `Kind` are of other crates.
+#[tactic(auto, unfolding(crate::specs::Words::state_kind))]
 fn state_kind(number: u32) -> Kind
     ensures { result ≡ state_kind number }
 {
@@ -49,19 +52,23 @@ fn state_kind(number: u32) -> Kind
 }
 
 // What stands behind the read list.
-pub fn parts_in(words: &[u32; 104]) -> Parts
-    ensures { result ≡ parts_in words.now }
-{
-    Parts {
-        kind: state_kind(words[KIND_AT]),
-        count: words[COUNT_AT],
-        base: number_in(words, BASE_AT),
-        buffer: number_in(words, BUFFER_AT),
-        taken: number_in(words, TAKEN_AT),
+impl From<&[u32; 104]> for Parts {
+    ghost from_gives = { λ words p. p ≡ parts_in words.now };
+
+    #[tactic(auto, unfolding(crate::specs::Words::parts_in))]
+    fn from(words: &[u32; 104]) -> Parts {
+        Parts {
+            kind: state_kind(words[KIND_AT]),
+            count: words[COUNT_AT],
+            base: number_in(words, BASE_AT),
+            buffer: number_in(words, BUFFER_AT),
+            taken: number_in(words, TAKEN_AT),
+        }
     }
 }
 
 // Stores a number of 64 bits into the two words from `k` on.
+#[tactic(auto, unfolding(wire::specs::Wire::stored))]
 pub fn store_number(words: &mut [u32; 104], k: usize, x: usize)
     requires { k < 103 }
     ensures { words.new ≡ stored words.old k (number_words x) }
@@ -70,14 +77,16 @@ pub fn store_number(words: &mut [u32; 104], k: usize, x: usize)
     words[k + 1] = (x / 4294967296) as u32;
 }
 
-// Stores what stands behind the read list.
-pub fn store_parts(words: &mut [u32; 104], p: Parts)
-    ensures { words.new ≡ stored words.old 96 (parts_words p) }
-{
-    let kind = p.kind;
-    store_number(words, BASE_AT, p.base);
-    store_number(words, BUFFER_AT, p.buffer);
-    store_number(words, TAKEN_AT, p.taken);
-    words[COUNT_AT] = p.count;
-    words[KIND_AT] = header::kind_number(kind);
+impl Parts {
+    // Stores what stands behind the read list.
+    #[tactic(auto, unfolding(wire::specs::Wire::stored))]
+    pub fn store(self, words: &mut [u32; 104])
+        ensures { words.new ≡ stored words.old 96 (parts_words self) }
+    {
+        store_number(words, BASE_AT, self.base);
+        store_number(words, BUFFER_AT, self.buffer);
+        store_number(words, TAKEN_AT, self.taken);
+        words[COUNT_AT] = self.count;
+        words[KIND_AT] = header::kind_number(self.kind);
+    }
 }

@@ -29,14 +29,15 @@ pub fn eos_take_piece(state: &mut [u32; 104], piece: &[u8], out: &mut [u8]) -> P
 }
 
 // Asks for the message, the first bytes of the buffer: how many they are, once all bytes are in.
+// Stays: a number, and a place for the length; C's `eos_message` is so.
 pub fn eos_message(state: &[u32; 104], out: &[u8], size: &mut usize) -> u32
     ensures answer { result ≡ message_number (state_in state.now) (length out.now) }
     ensures size { size.new ≡ message_size (state_in state.now) (length out.now) size.old }
 {
-    let a = assembly::message_answer(state, out.len());
-    if a.number != 0 {
-        return a.number;
-    }
-    *size = a.length;
+    let asked = assembly::message_answer(state, out.len());
+    let Ok(length) = asked else {
+        return answers::number(asked);
+    };
+    *size = length;
     0
 }

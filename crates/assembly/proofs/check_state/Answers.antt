@@ -1,45 +1,40 @@
--- `assembly::check_state` meets its contract.
-use mathlib.Core.Path.{refl, sym, ◌∙◌}
+-- A state that fails a check does not fit, and one that passes all does.
+use Rattle.std.proofs.Common.{◌≡◌, sym, ◌∙◌, arith}
+use Rattle.std.specs.Prelude.{Ok}
 use Rattle.chunk_lists.specs.Words.{reads_in}
-use Rattle.layout.proofs.ReadsWalk.{FineReads, fine_told}
-use Rattle.assembly_state.specs.State.{State}
+use Rattle.layout.proofs.ReadsWalk.{fine_told}
 use Rattle.assembly_state.specs.Words.{with_reads}
-use Rattle.assembly.specs.Assembly.{reads_of}
-use Rattle.assembly.proofs.StateChecks.{unfit_checked, too_many, faulty_list, other_buffer, misplaced, other_base, over_taken, fit_checked}
+use Rattle.assembly.proofs.StateChecks.{too_many, faulty_list, misplaced, other_base, over_taken, fit_checked, refused_told}
 use Rattle.assembly.proofs.check_state.Goals as goal
 
 pub returns-then-p : goal.returns-then-p
-returns-then-p c = let state : State = with_reads (reads_in c.args.words.now) c.args.p in
-    unfit_checked _ _ _ c.unfit.ensures (too_many state c.args.room c.if-p.true)
+returns-then-p c = too_many (with_reads (reads_in c.args.words.now) c.args.p) c.args.room c.if-p.true
 
-pub returns-then-p-room : goal.returns-then-p-room
-returns-then-p-room c = let state : State = with_reads (reads_in c.args.words.now) c.args.p in
-    unfit_checked _ _ _ c.unfit-then-p-room.ensures (other_buffer state c.args.room c.if-p-room.true)
+pub returns-in_err-found : goal.returns-in_err-found
+returns-in_err-found c =
+    rw c.from_residual.ensures (faulty_list (with_reads (reads_in c.args.words.now) c.args.p) c.args.room c.if-p.false (sym c.check_reads.ensures ∙ c.in_err-found.was))
 
-pub returns-in_default : goal.returns-in_default
-returns-in_default c = let state : State = with_reads (reads_in c.args.words.now) c.args.p in
-    unfit_checked _ _ _ c.unfit-in_default.ensures (faulty_list state c.args.room c.if-p.false (sym c.check_reads-reads.ensures ∙ c.in_default.is))
+pub returns-in_err-message : goal.returns-in_err-message
+returns-in_err-message c =
+    let fine = fine_told _ _ _ (sym c.check_reads.ensures ∙ c.in_ok-found.was) in
+    let refused = refused_told c.check_room.result (sym c.ok.ensures.value ∙ c.in_err-message.was) in
+    rw c.from_residual-in_err-message.ensures
+    (misplaced (with_reads (reads_in c.args.words.now) c.args.p) c.args.room c.if-p.false fine.rise fine.aligned c.if-p-room.false _ fine.summed c.check_room.result (c.check_room.ensures _ fine.stood) refused.0 refused.1)
 
-pub returns-in_default-measured : goal.returns-in_default-measured
-returns-in_default-measured c = let state : State = with_reads (reads_in c.args.words.now) c.args.p in
-    let fine : FineReads c.args.p.base (reads_of state) c.in-Fine.found = fine_told _ _ _ (sym c.check_reads-reads.ensures ∙ c.in-Fine.is) in
-    let f = fine in
-    unfit_checked _ _ _ c.unfit-in_default-measured.ensures (misplaced state c.args.room c.if-p.false f.rise f.aligned c.if-p-room.false _ f.summed c.check_room-measured.result (c.check_room-measured.ensures _ f.stood) _ c.in_default-measured.is)
+pub returns-then-base_length-p : goal.returns-then-base_length-p
+returns-then-base_length-p c =
+    let fine = fine_told _ _ _ (sym c.check_reads.ensures ∙ c.in_ok-found.was) in
+    let holds : c.check_room.result ≡ Ok c.in_ok-message.message = grind arith in
+    other_base (with_reads (reads_in c.args.words.now) c.args.p) c.args.room c.if-p.false fine.rise fine.aligned c.if-p-room.false _ fine.summed c.check_room.result (c.check_room.ensures _ fine.stood) _ holds _ c.base_length.ensures c.if-base_length-p.true
 
-pub returns-then-base_length-base : goal.returns-then-base_length-base
-returns-then-base_length-base c = let state : State = with_reads (reads_in c.args.words.now) c.args.p in
-    let fine : FineReads c.args.p.base (reads_of state) c.in-Fine.found = fine_told _ _ _ (sym c.check_reads-reads.ensures ∙ c.in-Fine.is) in
-    let f = fine in
-    unfit_checked _ _ _ c.unfit-then-base_length-base.ensures (other_base state c.args.room c.if-p.false f.rise f.aligned c.if-p-room.false _ f.summed c.check_room-measured.result (c.check_room-measured.ensures _ f.stood) _ c.in-Holds.is c.base_length.result c.base_length.ensures c.if-base_length-base.true)
-
-pub returns-then-sums-p : goal.returns-then-sums-p
-returns-then-sums-p c = let state : State = with_reads (reads_in c.args.words.now) c.args.p in
-    let fine : FineReads c.args.p.base (reads_of state) c.in-Fine.found = fine_told _ _ _ (sym c.check_reads-reads.ensures ∙ c.in-Fine.is) in
-    let f = fine in
-    unfit_checked _ _ _ c.unfit-then-sums-p.ensures (over_taken state c.args.room c.if-p.false f.rise f.aligned c.if-p-room.false _ f.summed c.check_room-measured.result (c.check_room-measured.ensures _ f.stood) _ c.in-Holds.is c.base_length.result c.base_length.ensures c.if-base_length-base.false c.if-sums-p.true)
+pub returns-then-p-sums : goal.returns-then-p-sums
+returns-then-p-sums c =
+    let fine = fine_told _ _ _ (sym c.check_reads.ensures ∙ c.in_ok-found.was) in
+    let holds : c.check_room.result ≡ Ok c.in_ok-message.message = grind arith in
+    over_taken (with_reads (reads_in c.args.words.now) c.args.p) c.args.room c.if-p.false fine.rise fine.aligned c.if-p-room.false _ fine.summed c.check_room.result (c.check_room.ensures _ fine.stood) _ holds _ c.base_length.ensures c.if-base_length-p.false c.if-p-sums.true
 
 pub returns : goal.returns
-returns c = let state : State = with_reads (reads_in c.args.words.now) c.args.p in
-    let fine : FineReads c.args.p.base (reads_of state) c.in-Fine.found = fine_told _ _ _ (sym c.check_reads-reads.ensures ∙ c.in-Fine.is) in
-    let f = fine in
-    fit_checked state c.args.room c.if-p.false f.rise f.aligned c.if-p-room.false _ f.summed c.check_room-measured.result (c.check_room-measured.ensures _ f.stood) _ c.in-Holds.is c.base_length.result c.base_length.ensures c.if-base_length-base.false _ c.if-sums-p.false refl
+returns c =
+    let fine = fine_told _ _ _ (sym c.check_reads.ensures ∙ c.in_ok-found.was) in
+    let holds : c.check_room.result ≡ Ok c.in_ok-message.message = grind arith in
+    fit_checked (with_reads (reads_in c.args.words.now) c.args.p) c.args.room c.if-p.false fine.rise fine.aligned c.if-p-room.false _ fine.summed c.check_room.result (c.check_room.ensures _ fine.stood) _ holds _ c.base_length.ensures c.if-base_length-p.false c.if-p-sums.false

@@ -1,23 +1,25 @@
--- `assembly::message_answer` meets its contract.
+-- What asking answers, by what the checks of the state find.
+use Rattle.std.proofs.Common.{◌≡◌, sym, ◌∙◌, arith, rules}
+use Rattle.std.specs.Prelude.{Some, None, Err}
+use Rattle.std.proofs.lemmas.Option.{MatchOption-at_none, MatchOption-at_some}
+use Rattle.answers.specs.Refusals.{numbered}
 use Rattle.assembly.proofs.Pieces.{ask_unfit, ask_early, ask_done}
-use Rattle.assembly_state.specs.Words.{with_reads}
-use Rattle.chunk_lists.specs.Words.{reads_in}
-use borrow.Author.Tests.{not-true, not-false}
-use mathlib.Core.Path.{sym, ◌∙◌}
 use Rattle.assembly.proofs.message_answer.Goals as goal
 
-pub returns-then-not-j : goal.returns-then-not-j
-returns-then-not-j c = let s = with_reads (reads_in c.args.words.now) c.parts_in-p.result in
-    rw (← c.parts_in-p.ensures) (ask_unfit s c.args.room (sym c.check_state-j.ensures.fits ∙ not-true _ c.if-not-j.true))
+pub returns-in_err-found : goal.returns-in_err-found
+returns-in_err-found c =
+    let none : c.check_state.result ≡ None = grind arith in
+    let unfit : numbered c.from_residual.result ≡ Err 17 = search rules in
+    rw (unfit, ← c.from-p.ensures) (ask_unfit _ c.args.room (MatchOption-at_none _ _ none c.check_state.ensures))
 
-pub returns-then-p-j : goal.returns-then-p-j
-returns-then-p-j c = let s = with_reads (reads_in c.args.words.now) c.parts_in-p.result in
-    let fits = not-false _ c.if-not-j.false in
-    let pulled = (c.check_state-j.ensures.known fits).pulled in
-    rw (← c.parts_in-p.ensures) (ask_early s c.args.room (sym c.check_state-j.ensures.fits ∙ fits) (λ e. c.if-p-j.true (e ∙ sym pulled)))
+pub returns-then-p-found : goal.returns-then-p-found
+returns-then-p-found c =
+    let some : c.check_state.result ≡ Some c.in_ok-found.found = grind arith in
+    let known = MatchOption-at_some _ _ _ some c.check_state.ensures in
+    rw (← c.from-p.ensures) (ask_early _ c.args.room known.0 (λ e. c.if-p-found.true (e ∙ sym known.1.pulled)))
 
 pub returns : goal.returns
-returns c = let s = with_reads (reads_in c.args.words.now) c.parts_in-p.result in
-    let fits = not-false _ c.if-not-j.false in
-    let known = c.check_state-j.ensures.known fits in
-    rw (← c.parts_in-p.ensures, known.message) (ask_done s c.args.room (sym c.check_state-j.ensures.fits ∙ fits) (c.if-p-j.false ∙ known.pulled))
+returns c =
+    let some : c.check_state.result ≡ Some c.in_ok-found.found = grind arith in
+    let known = MatchOption-at_some _ _ _ some c.check_state.ensures in
+    rw (← c.from-p.ensures, known.1.message) (ask_done _ c.args.room known.0 (c.if-p-found.false ∙ known.1.pulled))

@@ -1,15 +1,14 @@
 -- What the functions under the reassembly answer.
-use Rattle.std.specs.Prelude.{ℕ, ◌+◌, ◌≤◌, ◌≡◌, true, cond, length, eqb}
+use Rattle.std.specs.Prelude.{ℕ, ◌+◌, ◌≤◌, ◌≡◌, true, false, cond, length, eqb, Option, MatchOption, Result, Ok, Err}
 use Rattle.layout.specs.Layout.{message_length}
 use Rattle.placing.specs.Internal.Sources.{LayoutChecked, BasePulled, read_places}
 use Rattle.assembly_state.specs.State.{State}
 use Rattle.assembly.specs.Assembly.{reads_of, chunks_of, pulled_of, fits_state, piece_number, piece_goes, message_number}
-use Rattle.assembly.specs.declared.StateCheck.{StateCheck}
+use Rattle.assembly.specs.declared.StateFound.{StateFound}
 use Rattle.assembly.specs.declared.PlacedPiece.{PlacedPiece}
-use Rattle.assembly.specs.declared.MessageAnswer.{MessageAnswer}
 
 -- What is known of a state that fits.
-pub record Fitting (s : State) (room : ℕ) (r : StateCheck) : Type 0 where
+pub record Fitting (s : State) (room : ℕ) (r : StateFound) : Type 0 where
   pub count : s.reads.count ≤ 16
   pub layout : LayoutChecked s.base (reads_of s)
   pub message : r.message ≡ message_length s.base (chunks_of s)
@@ -19,16 +18,15 @@ pub record Fitting (s : State) (room : ℕ) (r : StateCheck) : Type 0 where
   pub pulled : r.pulled ≡ length (pulled_of s)
   pub taken : s.taken ≤ length (pulled_of s)
 
-pub record StateChecked (s : State) (room : ℕ) (r : StateCheck) : Type 0 where
-  pub fits : r.fits ≡ fits_state s room
-  pub known : r.fits ≡ true → Fitting s room r
+-- A state is found to fit exactly if it does.
+abbrev pub StateChecked : State → ℕ → Option StateFound → Type 0
+StateChecked s room r = MatchOption r (fits_state s room ≡ false) (λ f. (fits_state s room ≡ true) × Fitting s room f)
 
--- The count behind a piece, and its answer.
-abbrev pub placed_piece : State → ℕ → ℕ → PlacedPiece
+-- The count behind a piece and how many goes it took, or the number.
+abbrev pub placed_piece : State → ℕ → ℕ → Result PlacedPiece ℕ
 placed_piece s room size =
-    record { taken = cond (eqb (piece_number s room size) 0) (s.taken + size) s.taken; number = piece_number s room size; goes = piece_goes s room size }
+    cond (eqb (piece_number s room size) 0) (Ok (record { taken = s.taken + size; goes = piece_goes s room size })) (Err (piece_number s room size))
 
--- How long the message is, and the number; 0 where asking is refused.
-unfoldable pub message_answer : State → ℕ → MessageAnswer
-message_answer s room =
-    record { length = cond (eqb (message_number s room) 0) (message_length s.base (chunks_of s)) 0; number = message_number s room }
+-- How long the message is, or the number.
+unfoldable pub message_answer : State → ℕ → Result ℕ ℕ
+message_answer s room = cond (eqb (message_number s room) 0) (Ok (message_length s.base (chunks_of s))) (Err (message_number s room))
