@@ -12,11 +12,10 @@ pub fn eos_grant(asked: u32, limit: u32, credit: &mut u32) -> u32
     ensures credit { credit.new ≡ unless_refused (grant_answer asked limit).number (grant_answer asked limit).credit credit.old }
 {
     let a = credit::grant(asked, limit);
-    if a.number != 0 {
-        return a.number;
+    if a.number == 0 {
+        *credit = a.credit;
     }
-    *credit = a.credit;
-    0
+    a.number
 }
 
 // Writes the reply to a frame that got an answer number, if there is one.

@@ -3,10 +3,10 @@
 use mathlib.Core.Path.{◌≡◌, refl}
 use mathlib.Core.Bool.{Bool, true, false, cond, ◌&&◌}
 use mathlib.Core.List.{List, [], ◌∷◌}
-use Prim.Native.Nat.{ℕ, zero, suc, min, ◌≤◌, ◌<◌}
+use Prim.Native.Nat.{ℕ, zero, suc, min}
 use native.Mathlib.Omega.{arith}
 use native.Mathlib.Numerals.{unary_clauses}
-use borrow.Author.Tests.{le-leb, lt-leb, leb-true}
+use borrow.Author.Tests.{leb-true}
 use lib.ListN.{length, get_or}
 use lib.Dec.{leb, eqb}
 use Rattle.wire.specs.Words.{flag_number}
@@ -58,29 +58,6 @@ lent_fits w room e = by (flag_fits w) e
     by : (b : Bool) → (cond {A = WriteAnswer} b (write_setup_answer (setup_in w) room) (record { number = 20; length = 0 })).number ≡ 0 → b ≡ true
     by true q = refl
     by false q = absurd (omega arith)
-
--- What writing answers, by the flag.
-module _ (w : List ℕ) (room : ℕ) (out : List ℕ) where
-  pub no_flag : 1 < get_or w flag_at 0 → (write_setup_words_answer w room ≡ record { number = 20; length = 0 }) × (write_setup_words_buffer w out ≡ out)
-  unfolding write_setup_words_answer write_setup_words_buffer
-  no_flag h = simp (lt-leb _ _ h) (refl, refl)
-
-  pub a_flag : get_or w flag_at 0 ≤ 1 → (write_setup_words_answer w room ≡ write_setup_answer (setup_in w) room) × (write_setup_words_buffer w out ≡ write_setup_buffer (setup_in w) out)
-  a_flag h = lent_held w room out (le-leb _ _ h)
-
--- What follows from two, by their flags.
-module _ (client server : List ℕ) where
-  pub no_client : 1 < get_or client flag_at 0 → agree_words_answer client server ≡ no_agreement
-  unfolding agree_words_answer
-  no_client h = simp (lt-leb _ _ h)
-
-  pub no_server : get_or client flag_at 0 ≤ 1 → 1 < get_or server flag_at 0 → agree_words_answer client server ≡ no_agreement
-  unfolding agree_words_answer
-  no_server h k = simp (le-leb _ _ h, lt-leb _ _ k)
-
-  pub two_sides : get_or client flag_at 0 ≤ 1 → get_or server flag_at 0 ≤ 1 → agree_words_answer client server ≡ agreement (setup_in client) (setup_in server)
-  unfolding agree_words_answer
-  two_sides h k = simp (le-leb _ _ h, le-leb _ _ k)
 
 -- "Client to server: the smaller of the client's send size and the server's receive size; the other way likewise. Remote invalidation needs R from both.", word by word.
 pub record Agreed (client server words : List ℕ) : Type 0 where

@@ -1,5 +1,5 @@
 -- Setup data as the words that a caller holds and lends.
-use Rattle.std.specs.Prelude.{ℕ, Bool, cond, ◌&&◌, List, [], ◌∷◌, get_or, leb, eqb, ◌≡◌}
+use Rattle.std.specs.Prelude.{ℕ, Bool, cond, ◌&&◌, List, [], ◌∷◌, get_or, leb, eqb, ◌≡◌, Result, Ok, Err}
 use Rattle.wire.specs.Words.{flag_number}
 use Rattle.answers.specs.declared.WriteAnswer.{WriteAnswer}
 use Rattle.setup.specs.Setup.{write_setup_answer, write_setup_buffer, agreement, no_agreement}
@@ -29,6 +29,10 @@ setup_in w =
 -- A flag is 0 or 1; another number is a bad argument, 20 (DECISIONS 26).
 abbrev pub flag_fits : List ℕ → Bool
 flag_fits w = leb (get_or w flag_at 0) 1
+
+-- The setup data that words hold, or 20.
+abbrev pub held_setup : List ℕ → Result Setup ℕ
+held_setup w = cond (flag_fits w) (Ok (setup_in w)) (Err 20)
 
 -- What writing the setup data that words hold answers, and the buffer behind it.
 unfoldable pub write_setup_words_answer : List ℕ → ℕ → WriteAnswer

@@ -2,13 +2,15 @@
 #![tactic(auto)]
 
 ghost use Rattle.std.specs.Prelude.{◌≡◌, ◌∷◌, [], ◌≤◌, length};
+ghost use Rattle.answers.specs.Refusals.{written_answer};
 ghost use Rattle.wire.specs.Wire.{word_at, stored, word_bytes, words};
 ghost use Rattle.error_reply.specs.Reply.{reply_kind_of, reply_kind_for, reply_words, error_reply_answer, error_reply_buffer};
 ghost use Rattle.error_reply.specs.Internal.Length.{reply_length};
 
-use answers::WriteAnswer;
+use answers::{Refusal, WriteAnswer};
 
 // What is answered to a frame.
+// Stays: the table's kinds are "none, version or chunk", and `reply_kind_of` with the theorems over it speaks of three.
 #[derive(Clone, Copy)]
 pub enum ReplyKind {
     None,
@@ -20,7 +22,7 @@ pub enum ReplyKind {
 const LAST_NUMBER: u32 = 21;
 
 // "2 gives a version reply; 3, 5 to 9 and 11 to 15 a chunk reply; all others none"
-const REPLY_KINDS: [ReplyKind; 22] = [
+static REPLY_KINDS: [ReplyKind; 22] = [
     ReplyKind::None,
     ReplyKind::None,
     ReplyKind::Version,
@@ -45,20 +47,12 @@ const REPLY_KINDS: [ReplyKind; 22] = [
     ReplyKind::None, // 21, reserved
 ];
 
-// The reply that the table has for an answer number. The table is walked, so that each place read is one that the compiler
-// knows: for any other it would build the table anew at each call.
+// The reply that the table has for an answer number.
 fn kind_of(number: u32) -> ReplyKind
     requires { number ≤ 21 }
     ensures { result ≡ reply_kind_of number }
 {
-    let kinds = REPLY_KINDS;
-    let mut kind = ReplyKind::None;
-    for i in 0..22 {
-        if i == number as usize {
-            kind = kinds[i];
-        }
-    }
-    kind
+    REPLY_KINDS[number as usize]
 }
 
 // The reply to a frame that got an answer number.
@@ -111,26 +105,26 @@ fn encode_chunk(out: &mut [u8], frame: &[u8])
     wire::put_word(out, header::CODE_AT, header::CODE_CHUNK);
 }
 
-// Writes the reply to a frame that got an answer number, if there is one, and keeps the bytes behind it.
-pub fn error_reply(frame: &[u8], number: u32, limit: u32, out: &mut [u8]) -> WriteAnswer
-    ensures answer { result ≡ error_reply_answer frame.now number limit (length out.old) }
+// Writes the reply to a frame that got an answer number, if there is one: how many bytes it has.
+fn write_reply(frame: &[u8], number: u32, limit: u32, out: &mut [u8]) -> Result<usize, Refusal>
+    ensures answer { written_answer result ≡ error_reply_answer frame.now number limit (length out.old) }
     ensures buffer { out.new ≡ error_reply_buffer frame.now number limit out.old }
 {
     if limit == 0 {
-        return answers::nothing_written(answers::BAD_ARGUMENT);
+        return Err(Refusal::BadArgument);
     }
     if LAST_NUMBER < number {
-        return answers::nothing_written(answers::BAD_ARGUMENT);
+        return Err(Refusal::BadArgument);
     }
     if frame.len() < header::FIXED_BYTES {
-        return answers::nothing_written(0);
+        return Ok(0);
     }
     let n = length_of(kind_for(frame, number));
     if n == 0 {
-        return answers::nothing_written(0);
+        return Ok(0);
     }
     if out.len() < n {
-        return answers::nothing_written(answers::BUFFER_SHORT);
+        return Err(Refusal::BufferShort);
     }
     // The grant stands between what each reply has around it: where two arms both end in words that are written, the compiler
     // joins their ends, byte by byte.
@@ -142,8 +136,13 @@ pub fn error_reply(frame: &[u8], number: u32, limit: u32, out: &mut [u8]) -> Wri
     if n == header::CHUNK_ERROR_BYTES {
         encode_chunk(out, frame);
     }
-    WriteAnswer {
-        number: 0,
-        length: n,
-    }
+    Ok(n)
+}
+
+// Writes the reply to a frame that got an answer number, if there is one, and keeps the bytes behind it.
+pub fn error_reply(frame: &[u8], number: u32, limit: u32, out: &mut [u8]) -> WriteAnswer
+    ensures answer { result ≡ error_reply_answer frame.now number limit (length out.old) }
+    ensures buffer { out.new ≡ error_reply_buffer frame.now number limit out.old }
+{
+    answers::write_answer(write_reply(frame, number, limit, out))
 }

@@ -1,17 +1,15 @@
 -- Laws about sizes and setup data.
 -- Assumes nothing.
-use mathlib.Core.Path.{◌≡◌, refl, ◌∙◌}
+use mathlib.Core.Path.{◌≡◌}
 use mathlib.Core.Bool.{true, ◌&&◌}
-use mathlib.Core.List.{List, [], ◌∷◌, ◌++◌}
+use mathlib.Core.List.{List}
 use Prim.Native.Nat.{ℕ, ◌%◌, ◌≤◌}
-use native.Mathlib.Nat.{zero-add}
-use lib.ListN.{length, get_or, set}
+use lib.ListN.{length, get_or}
 use lib.Dec.{leb, eqb}
 use borrow.Author.Tests.{leb-true, eqb-true}
 use Rattle.answers.proofs.Checks.{both_hold}
-use Rattle.wire.proofs.Fields.{then}
 use Rattle.setup.specs.Setup.{is_setup, in_rule, setup_in_rule}
-use Rattle.wire.specs.Wire.{word_at, stored}
+use Rattle.wire.specs.Wire.{word_at}
 use Rattle.setup.specs.declared.Size.{Size}
 use Rattle.setup.specs.declared.Setup.{Setup}
 
@@ -45,8 +43,3 @@ setup_there s h =
     let ends = both_hold (leb 8 (length s)) (eqb (word_at s 0) 0xf6ab0e18 && eqb (get_or s 4 0) 1) h in
     let rest = both_hold (eqb (word_at s 0) 0xf6ab0e18) (eqb (get_or s 4 0) 1) ends.1 in
     record { long = leb-true _ _ ends.0; identifier = eqb-true _ _ rest.0; version = eqb-true _ _ rest.1 }
-
--- Four bytes behind the identifier.
-pub four_more : (l m a : List ℕ) (w x y z : ℕ) → m ≡ stored l 0 a → length a ≡ 4 → set (set (set (set m 4 w) 5 x) 6 y) 7 z ≡ stored l 0 (a ++ (w ∷ x ∷ y ∷ z ∷ []))
-unfolding stored
-four_more l m a w x y z p e = then l m (set (set (set (set m 4 w) 5 x) 6 y) 7 z) 0 4 a (w ∷ x ∷ y ∷ z ∷ []) p refl (zero-add _ ∙ e)

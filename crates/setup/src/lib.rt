@@ -2,11 +2,11 @@
 // Public: Size and its ends, Setup, SetupAnswer, Agreement, read_setup, write_setup, agree.
 #![tactic(auto)]
 
-ghost use Rattle.std.specs.Prelude.{◌≡◌, true, ◌&&◌, ◌≤◌, length};
-ghost use Rattle.wire.specs.Wire.{stored};
-ghost use Rattle.setup.specs.Setup.{size_of, in_rule, size_byte, smaller_size, is_setup, read_setup, flags_of, setup_bytes, setup_in_rule, write_setup_answer, write_setup_buffer, no_agreement, agreement};
+ghost use Rattle.std.specs.Prelude.{◌≡◌, true, cond, length};
+ghost use Rattle.answers.specs.Refusals.{written_answer};
+ghost use Rattle.setup.specs.Setup.{size_of, in_rule, size_byte, is_setup, setup_at, read_setup, setup_bytes, setup_in_rule, write_setup_answer, write_setup_buffer, agreement};
 
-use answers::WriteAnswer;
+use answers::{Refusal, WriteAnswer};
 
 // "identifier f6ab0e18; version byte 1; a flags byte ..; send size; receive size"
 const IDENTIFIER: u32 = 0xf6ab0e18;
@@ -29,7 +29,7 @@ const RECEIVE_AT: usize = 7;
 const SETUP_BYTES: usize = 8;
 
 // The bytes that one message may have inline.
-#[derive(Clone, Copy)]
+#[derive(Clone, Copy, PartialEq, Eq, PartialOrd, Ord)]
 pub struct Size(pub u32);
 
 impl Size {
@@ -40,42 +40,30 @@ impl Size {
 
     const UNIT: u32 = 1024;
 
-    // "A size byte n means (n + 1) × 1,024."
-    fn from_byte(n: u8) -> Size
-        ensures { result ≡ size_of n }
-    {
-        Size((n as u32 + 1) * Size::UNIT)
-    }
-
     // Whether a size is one that a size byte can mean.
+    #[tactic(auto, unfolding(crate::specs::Setup::in_rule))]
     fn in_rule(self) -> bool
         ensures { result ≡ in_rule self }
     {
-        if self.0 < Size::MIN {
-            return false;
-        }
-        if Size::MAX < self.0 {
-            return false;
-        }
-        self.0 % Size::UNIT == 0
+        Size::MIN <= self.0 && self.0 <= Size::MAX && self.0 % Size::UNIT == 0
     }
 
     // The byte that means a size.
+    #[tactic(auto, unfolding(crate::specs::Setup::in_rule))]
     fn to_byte(self) -> u8
         requires { in_rule self ≡ true }
         ensures { result ≡ size_byte self }
     {
         (self.0 / Size::UNIT - 1) as u8
     }
+}
 
-    // The smaller of two sizes.
-    fn smaller(self, other: Size) -> Size
-        ensures { result ≡ smaller_size self other }
-    {
-        if self.0 <= other.0 {
-            return self;
-        }
-        other
+// "A size byte n means (n + 1) × 1,024."
+impl From<u8> for Size {
+    ghost from_gives = { λ n size. size ≡ size_of n };
+
+    fn from(n: u8) -> Size {
+        Size((u32::from(n) + 1) * Size::UNIT)
     }
 }
 
@@ -87,6 +75,44 @@ pub struct Setup {
     pub receive: Size,
 }
 
+// "there is no setup data, which counts as R clear and 1,024 both ways"
+const NO_SETUP: Setup = Setup {
+    remote_invalidation: false,
+    send: Size(Size::MIN),
+    receive: Size(Size::MIN),
+};
+
+impl Setup {
+    // Whether both sizes of a side are in rule.
+    #[tactic(auto, unfolding(crate::specs::Setup::setup_in_rule))]
+    fn in_rule(self) -> bool
+        ensures { result ≡ setup_in_rule self }
+    {
+        self.send.in_rule() && self.receive.in_rule()
+    }
+
+    // The bytes of setup data that has passed its checks.
+    #[tactic(auto, unfolding(crate::specs::Setup::setup_in_rule, crate::specs::Setup::setup_bytes, wire::specs::Wire::word_bytes))]
+    fn to_bytes(self) -> [u8; 8]
+        requires { setup_in_rule self ≡ true }
+        ensures { result ≡ setup_bytes self }
+    {
+        let [a, b, c, d] = IDENTIFIER.to_be_bytes();
+        let flags = u8::from(self.remote_invalidation);
+        [
+            a,
+            b,
+            c,
+            d,
+            VERSION,
+            flags,
+            self.send.to_byte(),
+            self.receive.to_byte(),
+        ]
+    }
+}
+
+// Stays: README has `read_setup` with this answer, `present` and its number beside the setup data.
 #[derive(Clone, Copy)]
 pub struct SetupAnswer {
     pub setup: Setup,
@@ -95,6 +121,7 @@ pub struct SetupAnswer {
 }
 
 // What holds between two sides: the inline threshold of each direction, and whether remote invalidation may be used.
+// Stays: README has `agree` with this answer, its number beside what was agreed.
 #[derive(Clone, Copy)]
 pub struct Agreement {
     pub client_to_server: Size,
@@ -104,81 +131,57 @@ pub struct Agreement {
 }
 
 // Whether these bytes begin with setup data.
+#[tactic(auto, unfolding(crate::specs::Setup::is_setup))]
 fn is_setup(s: &[u8]) -> bool
     ensures { result ≡ is_setup s.now }
 {
-    if s.len() < SETUP_BYTES {
-        return false;
+    SETUP_BYTES <= s.len()
+        && wire::word_at(s, IDENTIFIER_AT) == IDENTIFIER
+        && s[VERSION_AT] == VERSION
+}
+
+// The setup data that these bytes begin with.
+#[tactic(auto, unfolding(crate::specs::Setup::is_setup))]
+fn setup_in(bytes: &[u8]) -> Option<Setup>
+    ensures { result ≡ cond (is_setup bytes.now) (Some (setup_at bytes.now)) None }
+{
+    if !is_setup(bytes) {
+        return None;
     }
-    if wire::word_at(s, IDENTIFIER_AT) != IDENTIFIER {
-        return false;
-    }
-    s[VERSION_AT] == VERSION
+    Some(Setup {
+        remote_invalidation: bytes[FLAGS_AT] % 2 == R_FLAG,
+        send: Size::from(bytes[SEND_AT]),
+        receive: Size::from(bytes[RECEIVE_AT]),
+    })
 }
 
 // Reads setup data.
+#[tactic(auto, unfolding(crate::specs::Setup::read_setup))]
 pub fn read_setup(bytes: &[u8]) -> SetupAnswer
     ensures { result ≡ read_setup bytes.now }
 {
-    if !is_setup(bytes) {
-        return SetupAnswer {
-            setup: Setup {
-                remote_invalidation: false,
-                send: Size(Size::MIN),
-                receive: Size(Size::MIN),
-            },
-            present: false,
-            number: 0,
-        };
-    }
+    let found = setup_in(bytes);
     SetupAnswer {
-        setup: Setup {
-            remote_invalidation: bytes[FLAGS_AT] % 2 == R_FLAG,
-            send: Size::from_byte(bytes[SEND_AT]),
-            receive: Size::from_byte(bytes[RECEIVE_AT]),
-        },
-        present: true,
+        setup: found.unwrap_or(NO_SETUP),
+        present: found.is_some(),
         number: 0,
     }
 }
 
-// Whether both sizes of a side are in rule.
-fn setup_in_rule(x: Setup) -> bool
-    ensures { result ≡ setup_in_rule x }
+// Writes setup data, and says how many bytes.
+#[tactic(auto, unfolding(crate::specs::Setup::write_setup_answer, crate::specs::Setup::write_setup_buffer, crate::specs::Setup::write_setup_number, crate::specs::Setup::setup_bytes, wire::specs::Wire::word_bytes))]
+fn written(side: Setup, out: &mut [u8]) -> Result<usize, Refusal>
+    ensures answer { written_answer result ≡ write_setup_answer side (length out.old) }
+    ensures buffer { out.new ≡ write_setup_buffer side out.old }
 {
-    let send = x.send;
-    let receive = x.receive;
-    if !send.in_rule() {
-        return false;
+    if !side.in_rule() {
+        return Err(Refusal::BadArgument);
     }
-    receive.in_rule()
-}
-
-// The flags byte: R, and all others 0.
-fn flags_of(invalidation: bool) -> u8
-    ensures { result ≡ flags_of invalidation }
-{
-    if invalidation {
-        return R_FLAG;
+    if out.len() < SETUP_BYTES {
+        return Err(Refusal::BufferShort);
     }
-    0
-}
-
-// Writes setup data that has passed its checks.
-fn encode_setup(out: &mut [u8], x: Setup)
-    requires { (setup_in_rule x ≡ true) × (8 ≤ length out.old) }
-    ensures { out.new ≡ stored out.old 0 (setup_bytes x) }
-{
-    let send = x.send;
-    let receive = x.receive;
-    let flags = flags_of(x.remote_invalidation);
-    let send_byte = send.to_byte();
-    let receive_byte = receive.to_byte();
-    wire::put_word(out, IDENTIFIER_AT, IDENTIFIER);
-    out[VERSION_AT] = VERSION;
-    out[FLAGS_AT] = flags;
-    out[SEND_AT] = send_byte;
-    out[RECEIVE_AT] = receive_byte;
+    out[..SETUP_BYTES].copy_from_slice(&side.to_bytes());
+    Ok(SETUP_BYTES)
 }
 
 // Writes setup data at the front of a buffer and keeps the bytes behind it.
@@ -186,59 +189,26 @@ pub fn write_setup(side: Setup, out: &mut [u8]) -> WriteAnswer
     ensures answer { result ≡ write_setup_answer side (length out.old) }
     ensures buffer { out.new ≡ write_setup_buffer side out.old }
 {
-    if !setup_in_rule(side) {
-        return answers::nothing_written(answers::BAD_ARGUMENT);
-    }
-    if out.len() < SETUP_BYTES {
-        return answers::nothing_written(answers::BUFFER_SHORT);
-    }
-    encode_setup(out, side);
-    WriteAnswer {
-        number: 0,
-        length: SETUP_BYTES,
-    }
-}
-
-// Whether both sides say so.
-fn both(a: bool, b: bool) -> bool
-    ensures { result ≡ (a && b) }
-{
-    if a {
-        return b;
-    }
-    false
-}
-
-// What two sides get of which one names a size out of rule.
-fn no_agreement() -> Agreement
-    ensures { result ≡ no_agreement }
-{
-    Agreement {
-        client_to_server: Size(0),
-        server_to_client: Size(0),
-        remote_invalidation: false,
-        number: answers::BAD_ARGUMENT,
-    }
+    answers::write_answer(written(side, out))
 }
 
 // What follows from the setup data of both sides.
+#[tactic(auto, unfolding(crate::specs::Setup::agreement))]
 pub fn agree(client: Setup, server: Setup) -> Agreement
     ensures { result ≡ agreement client server }
 {
-    if !setup_in_rule(client) {
-        return no_agreement();
+    if !client.in_rule() || !server.in_rule() {
+        return Agreement {
+            client_to_server: Size(0),
+            server_to_client: Size(0),
+            remote_invalidation: false,
+            number: u32::from(Refusal::BadArgument),
+        };
     }
-    if !setup_in_rule(server) {
-        return no_agreement();
-    }
-    let client_send = client.send;
-    let client_receive = client.receive;
-    let server_send = server.send;
-    let server_receive = server.receive;
     Agreement {
-        client_to_server: client_send.smaller(server_receive),
-        server_to_client: server_send.smaller(client_receive),
-        remote_invalidation: both(client.remote_invalidation, server.remote_invalidation),
+        client_to_server: client.send.min(server.receive),
+        server_to_client: server.send.min(client.receive),
+        remote_invalidation: client.remote_invalidation && server.remote_invalidation,
         number: 0,
     }
 }
