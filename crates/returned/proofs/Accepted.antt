@@ -1,21 +1,29 @@
 -- What the number 0 says, and the numbers that come with it.
 -- Assumes nothing.
-use mathlib.Core.Path.{◌≡◌, refl}
+use mathlib.Core.Path.{◌≡◌, refl, sym, ◌∙◌}
 use mathlib.Core.Bool.{Bool, true, false, not, ◌&&◌, cond}
 use mathlib.Core.List.{List, [], ◌∷◌, ◌++◌, map}
 use Prim.Native.Nat.{ℕ, ◌≤◌}
 use native.Mathlib.Omega.{arith}
 use lib.Dec.{eqb}
 use lib.ListN.{length, get_or, take, replicate, length-append, length-map, length-take, length-replicate}
-use borrow.Author.Tests.{eqb-true, not-true}
+use lib.Seq.{take_at}
+use Rattle.std.proofs.lemmas.List.{get_or_at}
+use borrow.Author.Tests.{eqb-true, not-true, ne_eqb}
+use Rattle.std.specs.Prelude.{Result, Ok, Err}
+use Rattle.std.specs.Result.{result_unwrap_or}
 use Rattle.answers.specs.Answers.{unless_refused}
+use Rattle.answers.specs.Refusals.{refusal_number, numbered, outcome_number}
+use Rattle.answers.specs.declared.Refusal.{Refusal}
 use Rattle.answers.proofs.Checks.{both_hold, check_passed}
 use Rattle.header.specs.Content.{padded, content_of}
 use Rattle.header.specs.Limits.{keeps_limits}
 use Rattle.header.specs.declared.Header.{Header}
 use Rattle.header.proofs.Limits.{few_counts}
 use Rattle.header.proofs.Contents.{length_runs}
-use Rattle.returned.specs.Returned.{mismatch, chunk_length, landed_writes, reply_chunk_length, returned_number, returned_answer, returned_places}
+use Rattle.header.proofs.Outcomes.{outcome_ok, outcome_err}
+use Rattle.returned.specs.Returned.{mismatch, chunk_length, landed_writes, returned_number, returned_answer}
+use Rattle.returned.specs.Internal.Parts.{headers_outcome}
 
 -- Both headers are within the limits, and nothing is wrong with the reply.
 pub record Accepted (sent reply : Header) : Type 0 where
@@ -58,23 +66,26 @@ pub writes_long : (sent reply : Header) → length (returned_answer sent reply).
 unfolding returned_answer
 writes_long sent reply = four (returned_number sent reply) (landed_writes (content_of reply)) (λ e. padded_long (map chunk_length (content_of reply).writes) (rw length-map (few_chunks reply (accepted sent reply e).reply_within)))
 
--- Over zeros the same numbers are stored as are answered.
-pub numbers_answered : (sent reply : Header) → returned_places sent reply (replicate 5 0) ≡ (returned_answer sent reply).writes ++ ((returned_answer sent reply).reply ∷ [])
+pub number_is : (sent reply : Header) → returned_number sent reply ≡ (returned_answer sent reply).number
 unfolding returned_answer
-numbers_answered sent reply = by (returned_number sent reply) (landed_writes (content_of reply)) (reply_chunk_length (content_of reply).reply)
-  where
-    with : (b : Bool) (made : List ℕ) (m : ℕ) → cond b (cond b made (replicate 4 0) ++ (cond b m 0 ∷ [])) (replicate 5 0) ≡ cond b made (replicate 4 0) ++ (cond b m 0 ∷ [])
-    with true made m = refl
-    with false made m = refl
+number_is sent reply = refl
 
-    by : (n : ℕ) (made : List ℕ) (m : ℕ) → unless_refused n (unless_refused n made (replicate 4 0) ++ (unless_refused n m 0 ∷ [])) (replicate 5 0) ≡ unless_refused n made (replicate 4 0) ++ (unless_refused n m 0 ∷ [])
-    by n made m = with (eqb n 0) made m
+-- Zeros and its number are the answer of what is refused.
+refused_is : (sent reply : Header) (number : ℕ) → (returned_number sent reply ≡ number) × (returned_number sent reply ≡ 0 → ⊥) → record { writes = replicate 4 0; reply = 0; number = number } ≡ returned_answer sent reply
+unfolding returned_answer
+refused_is sent reply number fault = rw (ne_eqb _ _ fault.1, fault.0)
 
--- Taken one by one they are the answer's.
-pub one_by_one : (l writes : List ℕ) (m : ℕ) → length writes ≡ 4 → l ≡ writes ++ (m ∷ []) → (get_or l 0 0 ∷ get_or l 1 0 ∷ get_or l 2 0 ∷ get_or l 3 0 ∷ [] ≡ writes) × (get_or l 4 0 ≡ m)
-one_by_one l [] m h e = absurd (omega arith)
-one_by_one l (a ∷ []) m h e = absurd (omega arith)
-one_by_one l (a ∷ b ∷ []) m h e = absurd (omega arith)
-one_by_one l (a ∷ b ∷ c ∷ []) m h e = absurd (omega arith)
-one_by_one l (a ∷ b ∷ c ∷ d ∷ []) m h e = (rw e, rw e)
-one_by_one l (a ∷ b ∷ c ∷ d ∷ x ∷ xs) m h e = absurd (omega arith)
+-- The five numbers, or zeros, and the number are the answer.
+pub answer_is : (sent reply : Header) (r : Result (List ℕ) Refusal) (writes : List ℕ) → numbered r ≡ headers_outcome sent reply → writes ≡ take 4 (result_unwrap_or r (replicate 5 0)) →
+    record { writes = writes; reply = get_or (result_unwrap_or r (replicate 5 0)) 4 0; number = outcome_number r } ≡ returned_answer sent reply
+answer_is sent reply (Ok l) writes e w =
+    let zero = outcome_ok (returned_number sent reply) _ l e in
+    let made : ◌≡◌ {A = Result (List ℕ) ℕ} (Ok l) (Ok ((returned_answer sent reply).writes ++ ((returned_answer sent reply).reply ∷ []))) = rw zero at e in
+    let same : l ≡ (returned_answer sent reply).writes ++ ((returned_answer sent reply).reply ∷ []) = cc in
+    let front = take_at (returned_answer sent reply).writes ((returned_answer sent reply).reply ∷ []) 4 (writes_long sent reply) in
+    let back = get_or_at (returned_answer sent reply).writes (returned_answer sent reply).reply [] 0 4 (writes_long sent reply) in
+    let first : writes ≡ (returned_answer sent reply).writes = w ∙ rw same front in
+    let last : get_or l 4 0 ≡ (returned_answer sent reply).reply = rw same back in
+    let number : 0 ≡ (returned_answer sent reply).number = sym zero ∙ number_is sent reply in
+    λ i. record { writes = first i; reply = last i; number = number i }
+answer_is sent reply (Err r) writes e w = rw w (refused_is sent reply (refusal_number r) (outcome_err (returned_number sent reply) _ (refusal_number r) e))

@@ -18,7 +18,7 @@ use Rattle.chunk_lists.specs.Words.{segments_in}
 use Rattle.chunk_lists.proofs.Items.{next_of}
 use Rattle.chunk_lists.proofs.Words.{length_segments, segments_here}
 use Rattle.header.specs.Limits.{total}
-use Rattle.returned.specs.declared.ChunkCheck.TheVariants.{Landed, Mismatch}
+use Rattle.std.specs.Prelude.{Some, None}
 use Rattle.returned.specs.Returned.{Pair, any, pairs, memory_differs, length_above, non_empty, not_full, filled_behind_gap, chunk_length}
 use Rattle.returned.specs.Internal.Parts.{segment_wrong, segments_wrong, chunk_check}
 
@@ -107,11 +107,11 @@ module _ (sent back : List Segment) (offered landed j : ℕ) (c : Comparing sent
       record { within = omega arith; wrong = c.wrong ∙ next; bytes = omega arith }
 
   -- One more, which may not.
-  pub comparing_fault : (x y : Segment) → drop j sent ≡ x ∷ drop (j + 1) sent → drop j back ≡ y ∷ drop (j + 1) back → segment_wrong (eqb landed offered) (record { sent = x; back = y }) ≡ true → chunk_check (record { sent = sent; back = back }) ≡ Mismatch
+  pub comparing_fault : (x y : Segment) → drop j sent ≡ x ∷ drop (j + 1) sent → drop j back ≡ y ∷ drop (j + 1) back → segment_wrong (eqb landed offered) (record { sent = x; back = y }) ≡ true → chunk_check (record { sent = sent; back = back }) ≡ None
   comparing_fault x y s b fault = simp (c.wrong, s, b, rest_next (eqb landed offered) x y (drop (j + 1) sent) (drop (j + 1) back), fault)
 
   -- None is left.
-  pub comparing_ends : drop j sent ≡ [] → drop j back ≡ [] → chunk_check (record { sent = sent; back = back }) ≡ Landed landed
+  pub comparing_ends : drop j sent ≡ [] → drop j back ≡ [] → chunk_check (record { sent = sent; back = back }) ≡ Some landed
   comparing_ends s b =
       let all : chunk_length back ≡ landed = c.bytes ∙ rw (b, length_none) (omega arith) in
       simp (c.wrong, s, b, rest_none (eqb landed offered), all)

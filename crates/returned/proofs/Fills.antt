@@ -21,7 +21,7 @@ use Rattle.returned.specs.Returned.{any, differ, pairs, has_reads, is_error, mis
 use Rattle.returned.specs.Filled.{filled, FilledChunks, FilledReplyChunk, Fills}
 use Rattle.returned.specs.Internal.Parts.{chunk_wrong}
 use Rattle.returned.proofs.Parts.{mismatch_parts}
-use Rattle.returned.proofs.Accepted.{accepted, accepts}
+use Rattle.returned.proofs.Accepted.{accepted, accepts, number_is}
 use Rattle.returned.proofs.Filled.{chunks_filled, filled_chunks, reply_filled, filled_reply}
 
 -- A list without elements.
@@ -57,10 +57,6 @@ fills_right sent reply ns n f =
 answer_landed : (sent reply : Header) → returned_number sent reply ≡ 0 → returned_answer sent reply ≡ record { writes = padded 4 0 (map chunk_length (content_of reply).writes); reply = reply_chunk_length (content_of reply).reply; number = 0 }
 unfolding returned_answer
 answer_landed sent reply e = rw e
-
-number_is : (sent reply : Header) → returned_number sent reply ≡ (returned_answer sent reply).number
-unfolding returned_answer
-number_is sent reply = refl
 
 -- Every reply that is accepted is within the limits, as the header that was sent is, and is that of a server which put as many bytes into each chunk as is answered.
 pub accepted_fills : (sent reply : Header) → (returned_answer sent reply).number ≡ 0 →

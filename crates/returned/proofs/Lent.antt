@@ -10,11 +10,6 @@ use Rattle.header.specs.Words.{header_in}
 use Rattle.header.specs.declared.Header.{Header}
 use Rattle.returned.specs.Returned.{returned_number, returned_answer, returned_words_number, returned_words_places}
 
--- Words that hold no reply header, whatever the others hold.
-pub reply_unknown : (sent : Option Header) (before : List ℕ) → (20 ≡ returned_words_number sent none) × (before ≡ returned_words_places sent none before)
-reply_unknown none before = (refl, refl)
-reply_unknown (some h) before = (refl, refl)
-
 -- Words that hold headers: the number, and what is stored, are those of the answer by value.
 pub lent_answer : (v w before : List ℕ) (sent reply : Header) → header_in v ≡ some sent → header_in w ≡ some reply →
     (returned_words_number (header_in v) (header_in w) ≡ (returned_answer sent reply).number)

@@ -17,24 +17,24 @@ use Rattle.chunk_lists.proofs.Words.{length_segments}
 use Rattle.header.specs.Content.{runs}
 use Rattle.header.specs.Limits.{total}
 use Rattle.header.specs.Words.{counts_in}
-use Rattle.header.proofs.Limits.{total_next, total_within, counts_long, count_here}
-use Rattle.returned.specs.declared.ChunkCheck.TheVariants.{Landed, Mismatch}
+use Rattle.header.proofs.Limits.{total_next, count_within, counts_long, count_here}
+use Rattle.std.specs.Prelude.{Some, None}
 use Rattle.returned.specs.Returned.{Pair, any, pairs, counts_differ, chunk_length}
 use Rattle.returned.specs.Internal.Parts.{segments_wrong, chunk_wrong, chunk_check, writes_in}
 
--- What comparing a chunk says: it is right, and so many bytes landed in it; or it is wrong.
-pub answer_landed : (wrong : Bool) (n m : ℕ) → cond wrong Mismatch (Landed n) ≡ Landed m → (wrong ≡ false) × (n ≡ m)
+-- What comparing says: what came back is right, and something landed; or it is wrong.
+pub answer_landed : {A : Type 0} (wrong : Bool) (n m : A) → cond wrong None (Some n) ≡ Some m → (wrong ≡ false) × (n ≡ m)
 answer_landed false n m e = (refl, cc)
-answer_landed true n m e = absurd (let z : ◌≡◌ {A = ℕ} 0 1 = cc in omega arith)
+answer_landed true n m e = absurd cc
 
-pub answer_mismatch : (wrong : Bool) (n : ℕ) → cond wrong Mismatch (Landed n) ≡ Mismatch → wrong ≡ true
+pub answer_mismatch : {A : Type 0} (wrong : Bool) (n : A) → cond wrong None (Some n) ≡ None → wrong ≡ true
 answer_mismatch true n e = refl
-answer_mismatch false n e = absurd (let z : ◌≡◌ {A = ℕ} 0 1 = cc in omega arith)
+answer_mismatch false n e = absurd cc
 
-pub chunk_landed : (c : Pair (List Segment)) (n : ℕ) → chunk_check c ≡ Landed n → (segments_wrong c ≡ false) × (chunk_length c.back ≡ n)
+pub chunk_landed : (c : Pair (List Segment)) (n : ℕ) → chunk_check c ≡ Some n → (segments_wrong c ≡ false) × (chunk_length c.back ≡ n)
 chunk_landed c n e = answer_landed (segments_wrong c) (chunk_length c.back) n e
 
-pub chunk_mismatch : (c : Pair (List Segment)) → chunk_check c ≡ Mismatch → segments_wrong c ≡ true
+pub chunk_mismatch : (c : Pair (List Segment)) → chunk_check c ≡ None → segments_wrong c ≡ true
 chunk_mismatch c e = answer_mismatch (segments_wrong c) (chunk_length c.back) e
 
 -- The chunks from the k-th on, where those before it have so many segments.
@@ -74,9 +74,7 @@ writes_start sent reply n before = record { sent_used = refl; reply_used = refl;
 -- The segments of a chunk are among those of all.
 pub chunk_few : (w : List ℕ) (n used k : ℕ) → length w ≡ 238 → n ≤ 4 → total (take n (counts_in w)) ≤ 16 → k < n → used ≡ total (take k (counts_in w)) → used + get_or w (224 + k) 0 ≤ 16
 chunk_few w n used k long few h k< e =
-    let four = counts_long w long in
-    let here = count_here w k (omega arith) in
-    let within = total_within (counts_in w) k n k< (omega arith) in
+    let within = count_within w k n long k< few in
     omega arith
 
 used_next : (w : List ℕ) (n used k d : ℕ) → length w ≡ 238 → n ≤ 4 → k < n → used ≡ total (take k (counts_in w)) → d ≡ get_or w (224 + k) 0 → used + d ≡ total (take (k + 1) (counts_in w))
@@ -86,7 +84,7 @@ used_next w n used k d long few h e f =
     let next = total_next (counts_in w) k (omega arith) in
     omega arith
 
-module _ (sent reply : List ℕ) (n : ℕ) (before after : List ℕ) (used k : ℕ) (given : (length sent ≡ 238) × (length reply ≡ 238) × (n ≤ 4) × (total (take n (counts_in sent)) ≤ 16) × (total (take n (counts_in reply)) ≤ 16)) (c : ComparingWrites sent reply n before after used k) where
+module _ (sent reply : List ℕ) (n : ℕ) (before after : List ℕ) (used k : ℕ) (sent-long : length sent ≡ 238) (reply-long : length reply ≡ 238) (given : (n ≤ 4) × (total (take n (counts_in sent)) ≤ 16) × (total (take n (counts_in reply)) ≤ 16)) (c : ComparingWrites sent reply n before after used k) where
   -- No chunk is left.
   pub writes_end : n ≤ k → (any chunk_wrong (pairs (writes_in n sent) (writes_in n reply)) ≡ false) × (after ≡ stored before 0 (map chunk_length (writes_in n reply)))
   unfolding pairs any stored
@@ -96,12 +94,12 @@ module _ (sent reply : List ℕ) (n : ℕ) (before after : List ℕ) (used k : �
     -- The chunk at hand, before the rest.
     here : any chunk_wrong (pairs (rest_in n sent k used) (rest_in n reply k used)) ≡ (chunk_wrong (record { sent = chunk_in sent used d; back = chunk_in reply used e }) || any chunk_wrong (pairs (rest_in n sent (k + 1) (used + d)) (rest_in n reply (k + 1) (used + e))))
     unfolding pairs any
-    here = rw (rest_next n sent k used d given.0 k< given.2 in-sent, rest_next n reply k used e given.1 k< given.2 in-reply)
+    here = rw (rest_next n sent k used d sent-long k< given.0 in-sent, rest_next n reply k used e reply-long k< given.0 in-reply)
 
     sizes : counts_differ (record { sent = chunk_in sent used d; back = chunk_in reply used e }) ≡ not (eqb d e)
     sizes =
-        let s = chunk_few sent n used k given.0 given.2 given.3 k< c.sent_used in
-        let r = chunk_few reply n used k given.1 given.2 given.4 k< c.reply_used in
+        let s = chunk_few sent n used k sent-long given.0 given.1 k< c.sent_used in
+        let r = chunk_few reply n used k reply-long given.0 given.2 k< c.reply_used in
         rw (chunk_size sent used d (omega arith), chunk_size reply used e (omega arith))
 
     -- It has another number of segments.
@@ -110,21 +108,21 @@ module _ (sent reply : List ℕ) (n : ℕ) (before after : List ℕ) (used k : �
 
     module _ (same : d ≡ e) where
       -- It has as many; its segments are at fault.
-      pub writes_fault : chunk_check (record { sent = chunk_in sent used d; back = chunk_in reply used d }) ≡ Mismatch → any chunk_wrong (pairs (writes_in n sent) (writes_in n reply)) ≡ true
+      pub writes_fault : chunk_check (record { sent = chunk_in sent used d; back = chunk_in reply used d }) ≡ None → any chunk_wrong (pairs (writes_in n sent) (writes_in n reply)) ≡ true
       writes_fault fault =
           let wrong : segments_wrong (record { sent = chunk_in sent used d; back = chunk_in reply used e }) ≡ true = rw (← same) (chunk_mismatch _ fault) in
           c.wrong ∙ here ∙ rw (sizes, eq-eqb d e same, wrong)
 
       -- They are not: so many bytes landed in it.
-      pub writes_next : (bytes : ℕ) → chunk_check (record { sent = chunk_in sent used d; back = chunk_in reply used d }) ≡ Landed bytes → ComparingWrites sent reply n before (set after k bytes) (used + d) (k + 1)
+      pub writes_next : (bytes : ℕ) → chunk_check (record { sent = chunk_in sent used d; back = chunk_in reply used d }) ≡ Some bytes → ComparingWrites sent reply n before (set after k bytes) (used + d) (k + 1)
       writes_next bytes fine =
           let right : segments_wrong (record { sent = chunk_in sent used d; back = chunk_in reply used e }) ≡ false = rw (← same) (chunk_landed _ _ fine).0 in
-          let there : rest_in n reply k used ≡ chunk_in reply used d ∷ rest_in n reply (k + 1) (used + d) = rest_next n reply k used d given.1 k< given.2 (same ∙ in-reply) in
+          let there : rest_in n reply k used ≡ chunk_in reply used d ∷ rest_in n reply (k + 1) (used + d) = rest_next n reply k used d reply-long k< given.0 (same ∙ in-reply) in
           let left : (chunk_wrong (record { sent = chunk_in sent used d; back = chunk_in reply used e }) || any chunk_wrong (pairs (rest_in n sent (k + 1) (used + d)) (rest_in n reply (k + 1) (used + e)))) ≡ any chunk_wrong (pairs (rest_in n sent (k + 1) (used + d)) (rest_in n reply (k + 1) (used + d))) = rw (sizes, eq-eqb d e same, right, ← same) in
           let stores : stored after k (map chunk_length (rest_in n reply k used)) ≡ stored (set after k bytes) (k + 1) (map chunk_length (rest_in n reply (k + 1) (used + d))) = rw (there, (chunk_landed _ _ fine).1) (store_cons after k bytes _) in
           record {
-            sent_used = used_next sent n used k d given.0 given.2 k< c.sent_used in-sent;
-            reply_used = used_next reply n used k d given.1 given.2 k< c.reply_used (same ∙ in-reply);
+            sent_used = used_next sent n used k d sent-long given.0 k< c.sent_used in-sent;
+            reply_used = used_next reply n used k d reply-long given.0 k< c.reply_used (same ∙ in-reply);
             wrong = c.wrong ∙ here ∙ left;
             landed = c.landed ∙ stores;
           }

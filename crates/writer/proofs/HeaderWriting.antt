@@ -1,16 +1,16 @@
 -- Laws about the bytes of a header, how many they are, and about writing them one behind the other.
 -- Assumes nothing.
-use mathlib.Core.Path.{◌≡◌, refl, sym, ap, ◌∙◌}
-use mathlib.Core.Bool.{Bool, true, false, cond}
+use mathlib.Core.Path.{◌≡◌, refl, ap, ◌∙◌}
+use mathlib.Core.Bool.{Bool, true, cond}
 use mathlib.Core.List.{List, ◌++◌}
 use mathlib.Core.Option.{Option, none, some}
 use Prim.Native.Nat.{ℕ, ◌+◌, ◌*◌, ◌≤◌}
 use native.Mathlib.Omega.{arith}
 use lib.ListN.{length, take, get_or, length-append}
-use lib.Dec.{eqb, leb}
+use lib.Seq.{length-take-le}
+use lib.Dec.{leb}
 use borrow.Author.Tests.{leb-true, ne_eqb}
-use Rattle.wire.specs.Wire.{stored}
-use Rattle.answers.specs.Answers.{unless_refused}
+use Rattle.wire.specs.Wire.{stored, joined}
 use Rattle.wire.proofs.Fields.{then, stored_apart}
 use Rattle.answers.proofs.Checks.{check_passed}
 use Rattle.chunk_lists.specs.Words.{reads_in, segments_in}
@@ -19,13 +19,13 @@ use Rattle.header.specs.Content.{content_of, runs}
 use Rattle.header.specs.Words.{writes_at, reply_at, read_count_at, write_chunks_at, reply_count_at, xid_at, credit_at, header_as, counts_in}
 use Rattle.header.specs.declared.Header.{Header}
 use Rattle.header.specs.declared.Kind.{Kind}
-use Rattle.header.specs.Bytes.{read_list_bytes, write_list_bytes, rest_bytes, fixed_bytes, header_bytes}
+use Rattle.header.specs.Bytes.{chunk_bytes, read_list_bytes, write_list_bytes, rest_bytes, fixed_bytes, header_bytes}
 use Rattle.writer.specs.Write.{write_answer, write_buffer, write_words_answer, write_words_buffer, bare_if_error, write_number}
 use Rattle.header.specs.Limits.{total, within_limits}
 use Rattle.header.specs.Internal.Counts.{limits_kept}
 use Rattle.writer.specs.Internal.Parts.{parts_bytes_in}
 use Rattle.header.proofs.Limits.{FewIn, few_in_words, counts_long}
-use Rattle.header.proofs.Bytes.{reads_length, writes_length, replies_length, fixed_length}
+use Rattle.header.proofs.Bytes.{reads_length, chunks_length, writes_length, replies_length, fixed_length}
 use Rattle.writer.proofs.Entries.{entries_zero}
 
 -- How many bytes the three parts take within their limits.
@@ -54,6 +54,13 @@ passed w present long h =
       writes_bytes = writes_bytes;
     }
 
+-- How many bytes the first chunks take.
+pub chunks_size : (w : List ℕ) (n : ℕ) → length w ≡ 238 → n ≤ 4 → total (take n (counts_in w)) ≤ 16 → length (joined chunk_bytes (runs (take n (counts_in w)) (segments_in writes_at w))) ≡ n * 8 + total (take n (counts_in w)) * 16
+chunks_size w n long few all =
+    let four = counts_long w long in
+    let full = length_segments writes_at w in
+    rw (chunks_length (take n (counts_in w)) (segments_in writes_at w) (omega arith), length-take-le n (counts_in w) (omega arith))
+
 -- The second and the fourth of four words were stored before the first and the third: they stand one behind the other.
 pub interleaved : (l m n p q u v x y : List ℕ) → m ≡ stored l 4 v → n ≡ stored m 12 y → p ≡ stored n 0 u → q ≡ stored p 8 x → length u ≡ 4 → length v ≡ 4 → length x ≡ 4 → q ≡ stored l 0 (u ++ (v ++ (x ++ y)))
 interleaved l m n p q u v x y em en ep eq lu lv lx =
@@ -73,12 +80,8 @@ module _ (w : List ℕ) (kind : Kind) (present : Bool) (rest : List ℕ) (e : re
   header_size = rw (header_of_lem, length-append, fixed_length)
 
   -- It is written: its fixed words, and behind them the rest.
-  pub header_written : (before out after : List ℕ) (r : ℕ) → out ≡ stored before 0 (fixed_bytes kind (get_or w xid_at 0) (get_or w credit_at 0)) → (r ≡ 16 + length rest) × (after ≡ stored out 16 rest) → (r ≡ length (header_bytes (content_of (header_as w kind present)))) × (after ≡ stored before 0 (header_bytes (content_of (header_as w kind present))))
-  header_written before out after r fixed p = (p.0 ∙ sym header_size, rw header_of_lem (then before out after 0 16 _ rest fixed p.1 (rw fixed_length)))
-
--- The length of a header, from what it is for parts of their length.
-pub sized : (w : List ℕ) (kind : Kind) (present : Bool) (r : ℕ) → Passed w present → ((parts : List ℕ) → length parts ≡ parts_size w present → r ≡ 16 + length (rest_bytes kind parts)) → length (header_bytes (content_of (header_as w kind present))) ≡ r
-sized w kind present r known claim = header_size w kind present _ refl ∙ sym (claim _ known.size)
+  pub header_written : (before out after : List ℕ) → out ≡ stored before 0 (fixed_bytes kind (get_or w xid_at 0) (get_or w credit_at 0)) → after ≡ stored out 16 rest → after ≡ stored before 0 (header_bytes (content_of (header_as w kind present)))
+  header_written before out after fixed p = rw header_of_lem (then before out after 0 16 _ rest fixed p (rw fixed_length))
 
 -- With the number 0 a header is within its limits, and there is room for it.
 pub accepted : (h : Header) (room : ℕ) → write_number h room ≡ 0 → (within_limits h.reads.count h.writes.chunks h.writes.counts h.reply.present h.reply.count ≡ true) × (length (header_bytes (content_of h)) ≤ room)
@@ -89,15 +92,6 @@ accepted h room e =
     let b = check_passed (within_limits h.reads.count h.writes.chunks h.writes.counts h.reply.present h.reply.count) 7 _ (omega arith) a in
     let d = entries_zero (content_of h).reads _ b.1 in
     (b.0, leb-true n room (check_passed (leb n room) 16 0 (omega arith) d).0)
-
--- A refused writing has written 0 bytes.
-pub none_written : (h : Header) (room : ℕ) → unless_refused (write_answer h room).number (write_answer h room).length 0 ≡ (write_answer h room).length
-unfolding write_answer
-none_written h room = by (eqb (write_number h room) 0)
-  where
-    by : (b : Bool) → cond b (cond b (length (header_bytes (content_of h))) 0) 0 ≡ cond b (length (header_bytes (content_of h))) 0
-    by true = refl
-    by false = refl
 
 -- A refused writing leaves the buffer.
 pub lent_refused : (h : Option Header) (out : List ℕ) → ((write_words_answer h (length out)).number ≡ 0 → ⊥) → write_words_buffer h out ≡ out

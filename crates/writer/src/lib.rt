@@ -3,19 +3,21 @@
 
 ghost use Rattle.std.specs.Prelude.{◌≡◌, true, cond, List, ℕ, ◌+◌, ◌*◌, ◌≤◌, length, take, drop, get_or};
 ghost use Rattle.answers.specs.Answers.{unless_refused};
+ghost use Rattle.answers.specs.Refusals.{numbered};
 ghost use Rattle.wire.specs.Wire.{stored, joined, segment_bytes};
 ghost use Rattle.wire.specs.Words.{segment_in, read_segment_in};
 ghost use Rattle.chunk_lists.specs.Words.{reads_in, segments_in};
 ghost use Rattle.header.specs.Content.{content_of, runs, reply_of};
-ghost use Rattle.header.specs.Words.{xid_at, credit_at, header_as, header_in, counts_in};
-ghost use Rattle.header.specs.Bytes.{entry_bytes, chunk_bytes, read_list_bytes, write_list_bytes, reply_bytes, error_bytes, fixed_bytes, procedure_of, rest_bytes, header_bytes};
+ghost use Rattle.header.specs.Words.{write_chunks_at, xid_at, credit_at, header_in, counts_in};
+ghost use Rattle.header.specs.Bytes.{entry_bytes, chunk_bytes, read_list_bytes, write_list_bytes, reply_bytes, error_bytes, fixed_bytes, procedure_of, header_bytes};
+ghost use Rattle.header.specs.Limits.{total, keeps_limits};
+ghost use Rattle.header.specs.Internal.Lent.{header_lent};
+ghost use Rattle.header.specs.Internal.Outcomes.{outcome};
 ghost use Rattle.writer.specs.Write.{bare_if_error, entries_number, write_number, write_answer, write_buffer, write_words_answer, write_words_buffer};
-ghost use Rattle.header.specs.Limits.{total};
-ghost use Rattle.header.specs.Internal.Counts.{limits_kept};
-ghost use Rattle.writer.specs.Internal.Parts.{parts_bytes_in};
+ghost use Rattle.writer.specs.Internal.Parts.{parts_bytes_in, header_outcome, lent_outcome};
 
-use answers::WriteAnswer;
-use header::{ErrorKind, Header, Kind, Known};
+use answers::{Refusal, WriteAnswer};
+use header::{ErrorKind, Header, Kind, Lent};
 
 // "a marker word 1, an entry, .. a marker word 0 ends it"
 const ENTRY: u32 = 1;
@@ -37,17 +39,8 @@ fn bare_if_error(kind: Kind, reads: usize, chunks: usize, present: bool) -> bool
     ensures { result ≡ bare_if_error kind reads chunks present }
 {
     match kind {
-        Kind::Msg => true,
-        Kind::Nomsg => true,
-        Kind::Error(_) => {
-            if reads != 0 {
-                return false;
-            }
-            if chunks != 0 {
-                return false;
-            }
-            !present
-        }
+        Kind::Error(_) => reads == 0 && chunks == 0 && !present,
+        _ => true,
     }
 }
 
@@ -57,9 +50,10 @@ fn reply_length(present: bool, count: usize) -> usize
     ensures { result ≡ cond present (8 + count * 16) 4 }
 {
     if present {
-        return chunk_lists::CHUNK_HEAD_BYTES + count * wire::SEGMENT_BYTES;
+        chunk_lists::CHUNK_HEAD_BYTES + count * wire::SEGMENT_BYTES
+    } else {
+        wire::WORD_BYTES
     }
-    wire::WORD_BYTES
 }
 
 // The bytes of the three parts.
@@ -75,6 +69,7 @@ fn lists_length(reads: usize, chunks: usize, segments: usize, reply: usize) -> u
 }
 
 // How many bytes an ERROR header takes.
+#[tactic(auto, unfolding(header::specs::Bytes::error_bytes, wire::specs::Wire::word_bytes))]
 fn error_length(e: ErrorKind) -> usize
     ensures { result ≡ 16 + length (error_bytes e) }
 {
@@ -84,63 +79,59 @@ fn error_length(e: ErrorKind) -> usize
     }
 }
 
-// How many bytes a header within its limits takes.
-fn header_length(
-    kind: Kind,
-    reads: usize,
-    chunks: usize,
-    segments: usize,
-    present: bool,
-    replies: usize,
-) -> usize
-    requires { (reads ≤ 16) × (chunks ≤ 4) × (segments ≤ 16) × (replies ≤ 16) }
-    ensures { (parts : List ℕ) → length parts ≡ (reads * 24 + 4) + ((chunks * 8 + segments * 16 + 4) + cond present (8 + replies * 16) 4) → result ≡ 16 + length (rest_bytes kind parts) }
+// How many bytes a header within its limits takes; `segments` is the sum of those of its write chunks.
+fn header_length(h: Lent, segments: usize) -> usize
+    requires { (keeps_limits (header_lent h) ≡ true) × (segments ≡ total (take (get_or h.words.now write_chunks_at 0) (counts_in h.words.now))) }
+    ensures { result ≡ length (header_bytes (content_of (header_lent h.entry))) }
 {
-    let Kind::Error(e) = kind else {
+    let words = h.words;
+    let Kind::Error(e) = h.kind else {
         return header::FIXED_BYTES
-            + lists_length(reads, chunks, segments, reply_length(present, replies));
+            + lists_length(
+                words[header::READ_COUNT_AT] as usize,
+                words[header::WRITE_CHUNKS_AT] as usize,
+                segments,
+                reply_length(h.present, words[header::REPLY_COUNT_AT] as usize),
+            );
     };
     error_length(e)
 }
 
-// The number of the first read entry at fault, or 0.
-fn check_entries(words: &[u32], n: usize) -> u32
-    requires { (n ≤ 16) × (96 ≤ length words.now) }
-    ensures { result ≡ entries_number (take n (reads_in words.now)) 0 }
+// Whether the first n read entries may be written.
+fn check_entries(words: &[u32; 238], n: usize) -> Result<(), Refusal>
+    requires { n ≤ 16 }
+    ensures { numbered result ≡ outcome (entries_number (take n (reads_in words.now)) 0) tt }
 {
     for k in 0..n {
         let x = chunk_lists::read_segment_of(words, k);
         if x.position % chunk_lists::POSITION_UNIT != 0 {
-            return answers::POSITION_UNALIGNED;
+            return Err(Refusal::PositionUnaligned);
         }
     }
-    0
+    Ok(())
 }
 
-// The number that writing a header into `room` bytes gives.
-fn write_number(words: &[u32], kind: Kind, present: bool, room: usize) -> u32
-    requires { length words.now ≡ 238 }
-    ensures { result ≡ write_number (header_as words.now kind present) room }
+// Whether a header may be written into `room` bytes, and how many it takes.
+fn check_header(h: Lent, room: usize) -> Result<usize, Refusal>
+    ensures { numbered result ≡ header_outcome (header_lent h.entry) room }
 {
+    let words = h.words;
     let reads = words[header::READ_COUNT_AT] as usize;
     let chunks = words[header::WRITE_CHUNKS_AT] as usize;
     let replies = words[header::REPLY_COUNT_AT] as usize;
-    if !bare_if_error(kind, reads, chunks, present) {
-        return answers::KIND_AND_LISTS;
+    if !bare_if_error(h.kind, reads, chunks, h.present) {
+        return Err(Refusal::KindAndLists);
     }
     let segments = header::total_count(words, chunks);
-    if !header::within_limits(reads, chunks, segments, present, replies) {
-        return answers::OVER_LIMIT;
+    if !header::within_limits(reads, chunks, segments, h.present, replies) {
+        return Err(Refusal::OverLimit);
     }
-    let fault = check_entries(words, reads);
-    if fault != 0 {
-        return fault;
-    }
-    let length = header_length(kind, reads, chunks, segments, present, replies);
+    check_entries(words, reads)?;
+    let length = header_length(h, segments);
     if room < length {
-        return answers::BUFFER_SHORT;
+        return Err(Refusal::BufferShort);
     }
-    0
+    Ok(length)
 }
 
 // Writes the segment in the words from `from` on. Each word is read where it is written: the compiler then stores it whole.
@@ -184,6 +175,7 @@ fn encode_read_list(out: &mut [u8], k: usize, words: &[u32], n: usize)
     wire::put_word(out, k + n * chunk_lists::MARKED_ENTRY_BYTES, END);
 }
 
+// Stays: beside encode_read_list, which writes each entry's marker and position in the same step, where the compiler stores them whole.
 // Writes n segments, from the i-th place of those at word `from` on.
 fn encode_segments(out: &mut [u8], k: usize, words: &[u32], from: usize, i: usize, n: usize)
     requires { (k + n * 16 ≤ length out.old) × (from + 64 ≤ length words.now) × (i + n ≤ 16) }
@@ -210,14 +202,14 @@ fn encode_chunk(out: &mut [u8], k: usize, words: &[u32], from: usize, i: usize, 
 }
 
 // Writes the n chunks of the write list and its end; answers where it ends.
-fn encode_write_list(out: &mut [u8], k: usize, words: &[u32], n: usize) -> usize
-    requires { (length words.now ≡ 238) × (n ≤ 4) × (total (take n (counts_in words.now)) ≤ 16) × (k + n * 8 + total (take n (counts_in words.now)) * 16 + 4 ≤ length out.old) }
+fn encode_write_list(out: &mut [u8], k: usize, words: &[u32; 238], n: usize) -> usize
+    requires { (n ≤ 4) × (total (take n (counts_in words.now)) ≤ 16) × (k + n * 8 + total (take n (counts_in words.now)) * 16 + 4 ≤ length out.old) }
     ensures { (result ≡ k + n * 8 + total (take n (counts_in words.now)) * 16 + 4) × (out.new ≡ stored out.old k (write_list_bytes (runs (take n (counts_in words.now)) (segments_in 96 words.now)))) }
 {
     let mut end = k;
     let mut used = 0;
-    for j in 0..n {
-        let d = words[header::WRITE_COUNTS_AT + j] as usize;
+    for count in &words[header::WRITE_COUNTS_AT..header::WRITE_COUNTS_AT + n] {
+        let d = *count as usize;
         encode_chunk(out, end, words, header::WRITES_AT, used, d);
         end += chunk_lists::CHUNK_HEAD_BYTES + d * wire::SEGMENT_BYTES;
         used += d;
@@ -227,8 +219,14 @@ fn encode_write_list(out: &mut [u8], k: usize, words: &[u32], n: usize) -> usize
 }
 
 // Writes the reply chunk, or its absence; answers where it ends.
-fn encode_reply_chunk(out: &mut [u8], k: usize, words: &[u32], present: bool, n: usize) -> usize
-    requires { (length words.now ≡ 238) × (n ≤ 16) × (k + cond present (8 + n * 16) 4 ≤ length out.old) }
+fn encode_reply_chunk(
+    out: &mut [u8],
+    k: usize,
+    words: &[u32; 238],
+    present: bool,
+    n: usize,
+) -> usize
+    requires { (n ≤ 16) × (k + cond present (8 + n * 16) 4 ≤ length out.old) }
     ensures { (result ≡ k + cond present (8 + n * 16) 4) × (out.new ≡ stored out.old k (reply_bytes (reply_of present (take n (segments_in 160 words.now))))) }
 {
     if present {
@@ -240,6 +238,7 @@ fn encode_reply_chunk(out: &mut [u8], k: usize, words: &[u32], present: bool, n:
 }
 
 // Writes what stands behind the fixed words of an ERROR header; answers where it ends.
+#[tactic(auto, unfolding(header::specs::Bytes::error_bytes, wire::specs::Wire::word_bytes))]
 fn encode_error(out: &mut [u8], e: ErrorKind) -> usize
     requires { 16 + length (error_bytes e) ≤ length out.old }
     ensures { (result ≡ 16 + length (error_bytes e)) × (out.new ≡ stored out.old 16 (error_bytes e)) }
@@ -270,8 +269,8 @@ fn procedure_of(kind: Kind) -> u32
 
 // Writes the fixed words: xid and credit last, each read where it is written, as in encode_segment. A computed word written
 // behind them would keep the compiler from storing them whole.
-fn encode_fixed(out: &mut [u8], words: &[u32], kind: Kind)
-    requires { (length words.now ≡ 238) × (16 ≤ length out.old) }
+fn encode_fixed(out: &mut [u8], words: &[u32; 238], kind: Kind)
+    requires { 16 ≤ length out.old }
     ensures { out.new ≡ stored out.old 0 (fixed_bytes kind (get_or words.now xid_at 0) (get_or words.now credit_at 0)) }
 {
     wire::put_word(out, header::VERSION_AT, header::VERSION);
@@ -281,10 +280,11 @@ fn encode_fixed(out: &mut [u8], words: &[u32], kind: Kind)
 }
 
 // Writes the three parts behind the fixed words; answers where they end.
-fn encode_lists(out: &mut [u8], words: &[u32], present: bool) -> usize
-    requires { (length words.now ≡ 238) × (limits_kept words.now present ≡ true) × (16 + length (parts_bytes_in words.now present) ≤ length out.old) }
-    ensures { (result ≡ 16 + length (parts_bytes_in words.now present)) × (out.new ≡ stored out.old 16 (parts_bytes_in words.now present)) }
+fn encode_lists(out: &mut [u8], h: Lent) -> usize
+    requires { (keeps_limits (header_lent h) ≡ true) × (16 + length (parts_bytes_in h.words.now h.present) ≤ length out.old) }
+    ensures { (result ≡ 16 + length (parts_bytes_in h.entry.words.now h.entry.present)) × (out.new ≡ stored out.old 16 (parts_bytes_in h.entry.words.now h.entry.present)) }
 {
+    let words = h.words;
     let n = words[header::READ_COUNT_AT] as usize;
     encode_read_list(out, header::FIXED_BYTES, words, n);
     let end = encode_write_list(
@@ -297,48 +297,48 @@ fn encode_lists(out: &mut [u8], words: &[u32], present: bool) -> usize
         out,
         end,
         words,
-        present,
+        h.present,
         words[header::REPLY_COUNT_AT] as usize,
     )
 }
 
-// Writes a header that has passed its checks; answers its length.
-fn encode_header(out: &mut [u8], words: &[u32], kind: Kind, present: bool) -> usize
-    requires { (length words.now ≡ 238) × (limits_kept words.now present ≡ true) × (length (header_bytes (content_of (header_as words.now kind present))) ≤ length out.old) }
-    ensures { (result ≡ length (header_bytes (content_of (header_as words.now kind present)))) × (out.new ≡ stored out.old 0 (header_bytes (content_of (header_as words.now kind present)))) }
+// Writes a header that has passed its checks.
+fn encode_header(out: &mut [u8], h: Lent)
+    requires { (keeps_limits (header_lent h) ≡ true) × (length (header_bytes (content_of (header_lent h))) ≤ length out.old) }
+    ensures { out.new ≡ stored out.old 0 (header_bytes (content_of (header_lent h.entry))) }
 {
-    encode_fixed(out, words, kind);
-    let Kind::Error(e) = kind else {
-        return encode_lists(out, words, present);
+    encode_fixed(out, h.words, h.kind);
+    match h.kind {
+        Kind::Error(e) => encode_error(out, e),
+        _ => encode_lists(out, h),
     };
-    encode_error(out, e)
+}
+
+// Writes the header that the words hold at the front of a buffer, and keeps the bytes behind it; answers how many bytes it has.
+fn write_lent(words: &[u32; 238], out: &mut [u8]) -> Result<usize, Refusal>
+    ensures outcome { numbered result ≡ lent_outcome (header_in words.now) (length out.old) }
+    ensures buffer { out.new ≡ write_words_buffer (header_in words.now) out.old }
+{
+    let h = header::header_in(words).ok_or(Refusal::BadArgument)?;
+    let length = check_header(h, out.len())?;
+    encode_header(out, h);
+    Ok(length)
 }
 
 // Writes the header that the words hold at the front of a buffer, keeps the bytes behind it, and stores how many bytes it has.
+// Stays: README has it answer a number, as `eos_write_header` hands on.
 pub fn write_words(words: &[u32; 238], out: &mut [u8], size: &mut usize) -> u32
     ensures answer { result ≡ (write_words_answer (header_in words.now) (length out.old)).number }
     ensures size { size.new ≡ unless_refused (write_words_answer (header_in words.now) (length out.old)).number (write_words_answer (header_in words.now) (length out.old)).length size.old }
     ensures buffer { out.new ≡ write_words_buffer (header_in words.now) out.old }
 {
-    let known = header::kind_in(
-        words[header::KIND_WORD_AT],
-        words[header::LOW_WORD_AT],
-        words[header::HIGH_WORD_AT],
-    );
-    let Known::Is(kind) = known else {
-        return answers::BAD_ARGUMENT;
-    };
-    let flag = words[header::REPLY_PRESENT_AT];
-    if wire::FLAG_SET < flag {
-        return answers::BAD_ARGUMENT;
+    match write_lent(words, out) {
+        Ok(length) => {
+            *size = length;
+            0
+        }
+        Err(refusal) => u32::from(refusal),
     }
-    let present = flag == wire::FLAG_SET;
-    let number = write_number(words, kind, present, out.len());
-    if number != 0 {
-        return number;
-    }
-    *size = encode_header(out, words, kind, present);
-    0
 }
 
 // The same of a header by value.
@@ -346,8 +346,5 @@ pub fn write_header(h: Header, out: &mut [u8]) -> WriteAnswer
     ensures answer { result ≡ write_answer h (length out.old) }
     ensures buffer { out.new ≡ write_buffer h out.old }
 {
-    let words = header::words_of(h);
-    let mut length: usize = 0;
-    let number = write_words(&words, out, &mut length);
-    WriteAnswer { number, length }
+    answers::write_answer(write_lent(&header::words_of(h), out))
 }

@@ -10,8 +10,8 @@ use Rattle.header.specs.Words.{counts_in}
 use Rattle.header.specs.Bytes.{chunk_bytes}
 use Rattle.writer.proofs.encode_write_list.Given as goal
 
-abbrev pub invariant-loop-j : goal.invariant-loop-j
-invariant-loop-j l = (l.j ≤ l.n) × (length l.out ≡ length l.initial.out) × (l.used ≡ total (take l.j (counts_in l.words))) × (l.end ≡ l.k + l.j * 8 + l.used * 16) × (l.out ≡ stored l.initial.out l.k (joined chunk_bytes (runs (take l.j (counts_in l.words)) (segments_in 96 l.words))))
+abbrev pub invariant-loop-count : goal.invariant-loop-count
+invariant-loop-count l = (l.count-index ≤ l.n) × (length l.out ≡ length l.initial.out) × (l.used ≡ total (take l.count-index (counts_in l.words))) × (l.end ≡ l.k + l.count-index * 8 + l.used * 16) × (l.out ≡ stored l.initial.out l.k (joined chunk_bytes (runs (take l.count-index (counts_in l.words)) (segments_in 96 l.words))))
 
-abbrev pub decreases-loop-j : goal.decreases-loop-j
-decreases-loop-j l = l.n - l.j
+abbrev pub decreases-loop-count : goal.decreases-loop-count
+decreases-loop-count l = l.n - l.count-index

@@ -1,8 +1,0 @@
--- `writer::reply_length` meets its contract.
-use Rattle.writer.proofs.reply_length.Goals as goal
-
-pub returns-then-present : goal.returns-then-present
-returns-then-present c = simp c.if-present.true
-
-pub returns : goal.returns
-returns c = simp c.if-present.false
