@@ -111,9 +111,6 @@ pub record Seeking (xs : List ℕ) (last xid passed : ℕ) : Type 0 where
   pub is : xid ≡ (last + 1 + passed) % 4294967296
   pub over : Run passed (last + 1) xs
 
-pub seeking_starts : (xs : List ℕ) (last : ℕ) → Seeking xs last ((last + 1) % 4294967296) 0
-seeking_starts xs last = record { few = omega arith; is = omega arith; over = λ k h. absurd (omega arith) }
-
 module _ (xs : List ℕ) (last xid passed : ℕ) (short : length xs < 32) (s : Seeking xs last xid passed) where
   pub seeking_next : is_in xid xs ≡ true → Seeking xs last ((xid + 1) % 4294967296) (passed + 1)
   seeking_next e =
@@ -121,6 +118,10 @@ module _ (xs : List ℕ) (last xid passed : ℕ) (short : length xs < 32) (s : S
       let is = s.is in
       let over = run_more passed (last + 1) xs s.over (rw is at e) in
       record { few = places (passed + 1) (last + 1) xs (omega arith) over; is = omega arith; over = over }
+
+  -- So it has not been past all of them.
+  pub seeking_room : is_in xid xs ≡ true → passed < length xs
+  seeking_room e = let few = (seeking_next e).few in omega arith
 
   pub seeking_ends : is_in xid xs ≡ false → (xid ≡ first_free (length xs) (xid_after last) xs) × (passed ≡ run_length (xids_behind 32 last) xs)
   seeking_ends e =

@@ -1,25 +1,18 @@
 -- `ledger::any_twice` meets its contract.
-use Rattle.std.proofs.Common.{◌+◌, sym, refl, ◌∙◌, arith, rules}
+use Rattle.std.proofs.Common.{◌+◌, ◌-◌, ◌∙◌, ℕ, length, take, drop, sym, rules}
+use Rattle.std.proofs.lemmas.Iterator.{YieldsList-from_slice}
+use Rattle.std.proofs.lemmas.Iterator.Consumers.{YieldsList-from_enumerate}
+use Rattle.std.proofs.lemmas.Iterator.Search.{any_from_yields_List}
+use borrow.Author.Tests.{tests}
+use Rattle.ledger.specs.Ledger.{is_in}
 use Rattle.ledger.proofs.Xids.{rising_once}
-use Rattle.ledger.proofs.Scans.{twice_here, twice_next, twice_none, rest_is}
+use Rattle.ledger.proofs.Scans.{twice_at_all}
 use Rattle.ledger.proofs.any_twice.Goals as goal
 
-pub returns-then-is_rising : goal.returns-then-is_rising
-returns-then-is_rising c = sym (rising_once _ (sym c.is_rising.ensures ∙ c.if-is_rising.true))
+pub returns-then-not-is_rising : goal.returns-then-not-is_rising
+returns-then-not-is_rising c = let list = c.args.list.now in
+    any_from_yields_List (λ (p : ℕ × ℕ). is_in p.1 (take (length list - (p.0 + 1)) (drop (p.0 + 1) list))) _ _ c.any.result c.any.ensures.ran (YieldsList-from_enumerate (YieldsList-from_slice list cc) c.enumerate.ensures.count) (λ x b q k. search (rules, tests))
+    ∙ twice_at_all list
 
-pub loop-i-init : goal.loop-i-init
-loop-i-init c = (search rules, refl, refl)
-
-pub returns-then-holds : goal.returns-then-holds
-returns-then-holds c = let list = c.args.list.now in
-    let i = c.loop-i.i in
-    twice_here list i (omega arith) c.loop-i.invariant.2 (rw (← (rest_is list (i + 1))) (sym c.holds.ensures ∙ c.if-holds.true))
-
-pub loop-i-preserved : goal.loop-i-preserved
-loop-i-preserved c = let list = c.args.list.now in
-    let i = c.loop-i.i in
-    let known = c.loop-i.invariant in
-    (omega arith, known.1, twice_next list i (omega arith) known.2 (rw (← (rest_is list (i + 1))) (sym c.holds.ensures ∙ c.if-holds.false)))
-
-pub returns : goal.returns
-returns c = twice_none c.args.list.now c.loop-i.i (omega arith) c.loop-i.invariant.2
+pub returns-else-not-is_rising : goal.returns-else-not-is_rising
+returns-else-not-is_rising c = rw c.if-not-is_rising.false (sym (rising_once _ (sym c.is_rising.ensures ∙ c.if-not-is_rising.false)))

@@ -1,17 +1,11 @@
 -- `ledger::holds` meets its contract.
-use Rattle.std.proofs.Common.{refl, arith}
-use Rattle.ledger.proofs.Scans.{in_next, in_end}
+use Rattle.std.proofs.Common.{◌||◌, rules, eqb, Bool, false, ◌∙◌, ℕ}
+use Rattle.std.proofs.lemmas.Iterator.{YieldsList-from_slice}
+use Rattle.std.proofs.lemmas.Iterator.Consumers.{fold_from_yields_List}
+use borrow.Author.Tests.{tests}
+use Rattle.ledger.proofs.Scans.{any_so_far}
 use Rattle.ledger.proofs.holds.Goals as goal
-
-pub loop-i-init : goal.loop-i-init
-loop-i-init c = refl
-
-pub loop-i-preserved : goal.loop-i-preserved
-loop-i-preserved c = let a = c.args in
-    let turn = c.loop-i in
-    rw c.meets-met.ensures (in_next a.xid a.list.now turn.i turn.met (omega arith) turn.invariant)
 
 pub returns : goal.returns
 returns c = let a = c.args in
-    let last = c.loop-i in
-    in_end a.xid a.list.now last.i last.met (omega arith) last.invariant
+    fold_from_yields_List _ (λ (met : Bool) (x : ℕ). met || eqb a.xid x) false _ c.fold.ensures.ran (YieldsList-from_slice a.list.now cc) (λ met x so q k. search (rules, tests)) ∙ any_so_far a.xid a.list.now false
