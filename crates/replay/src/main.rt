@@ -9,162 +9,122 @@ use std::fmt::Write;
 use std::io::{Error, Print, Read, Stderr, Stdin, Stdout};
 use trace::TraceState;
 
-// The parts of the process that a replay needs: what is read, what is reported, and where a failure is told.
+// What ends a replay before its report is whole.
 #[derive(Drop)]
-pub struct Ends {
-    pub input: Stdin,
-    pub output: Stdout,
-    pub errors: Stderr,
+pub enum Failure {
+    Read(Error),
+    Write(Error),
 }
 
 // The words of a system error: as many as there is room for.
+// Stays: a `String` needs the heap, of which the program has none, and telling of an error could then fail.
 #[derive(Drop)]
 pub struct Words {
-    pub bytes: [u8; 256],
-    pub len: usize,
+    bytes: [u8; 256],
+    len: usize,
+    ghost within: { len ≤ 256 },
+}
+
+impl Words {
+    fn of(error: &Error) -> Words {
+        let mut words = Words {
+            bytes: [0u8; 256],
+            len: 0,
+        };
+        let _ = write!(words, "{error}");
+        words
+    }
+
+    // Those before the error's number, which the library puts behind them.
+    fn without_number(&self) -> &[u8] {
+        let words = &self.bytes[..self.len];
+        let number = b" (os error ";
+        match words
+            .windows(number.len())
+            .position(|w| w == number.as_slice())
+        {
+            Some(n) => &words[..n],
+            None => words,
+        }
+    }
 }
 
 impl fmt::Write for Words {
     fn write_str(&mut self, s: &str) -> fmt::Result {
-        for b in s.as_bytes() {
-            if self.len < self.bytes.len() {
-                self.bytes[self.len] = *b;
-                self.len += 1;
-            }
-        }
+        let room = self.bytes.len() - self.len;
+        let n = s.len().min(room);
+        self.bytes[self.len..self.len + n].copy_from_slice(&s.as_bytes()[..n]);
+        self.len += n;
         Ok(())
     }
 }
 
-// A replay after a block: its state, and whether the report goes on.
-#[derive(Clone, Copy)]
-pub struct Fed {
-    pub state: TraceState,
-    pub goes_on: bool,
-}
-
-// How many bytes of a system error's words come before its number, which the library puts behind them.
-fn without_number(words: &[u8]) -> usize
-    ensures { result ≤ length words.now }
-{
-    let number = b" (os error ";
-    for i in 0..words.len() {
-        if words[i..].starts_with(number) {
-            return i;
-        }
-    }
-    words.len()
-}
-
-// The words of a system error.
-fn words_of(error: &Error) -> Words {
-    let mut words = Words {
-        bytes: [0u8; 256],
-        len: 0,
-    };
-    let _ = write!(words, "{error}");
-    words
-}
-
 // Writes a line to standard error: what failed, a colon and the system's words.
-fn tell(ends: &Ends, what: &[u8], error: &Error) {
-    let words = words_of(error);
-    let most = words.len.min(words.bytes.len());
-    let n = without_number(&words.bytes[..most]);
-    let _ = ends.errors.write_all(what);
-    let _ = ends.errors.write_all(b": ");
-    let _ = ends.errors.write_all(&words.bytes[..n]);
-    let _ = ends.errors.write_all(b"\n");
-}
-
-// Writes a part of the report, and says whether it could.
-fn write_part(ends: &Ends, text: &[u8]) -> bool {
-    match ends.output.write_all(text) {
-        Ok(()) => true,
-        Err(error) => {
-            tell(ends, b"replay: the report cannot be written", &error);
-            false
-        }
-    }
+fn tell(errors: &Stderr, failure: &Failure) {
+    let (what, error) = match failure {
+        Failure::Read(error) => ("replay: the trace cannot be read: ", error),
+        Failure::Write(error) => ("replay: the report cannot be written: ", error),
+    };
+    let words = Words::of(error);
+    let _ = errors.write_all(what.as_bytes());
+    let _ = errors.write_all(words.without_number());
+    let _ = errors.write_all(b"\n");
 }
 
 // Feeds a block, and writes what it gives whenever the buffer has no room for another line.
 fn feed_block(
-    ends: &Ends,
+    output: &Stdout,
     state: TraceState,
     block: &[u8],
     frame: &mut [u8; 4096],
-    out: &mut [u8],
-) -> Fed
-    requires { 22 ≤ length out.old }
-{
-    let mut s = state;
-    let mut i = 0;
-    while i < block.len() {
-        let part = trace::feed(s, &block[i..], frame, out);
-        s = part.state;
-        i += part.used;
-        let n = part.written;
-        if !write_part(ends, &out[..n]) {
-            return Fed {
-                state: s,
-                goes_on: false,
-            };
-        }
+    out: &mut [u8; 65536],
+) -> Result<TraceState, Failure> {
+    let mut state = state;
+    let mut rest = block;
+    while !rest.is_empty() {
+        let fed = trace::feed(state, rest, frame, out);
+        output
+            .write_all(&out[..fed.written])
+            .map_err(Failure::Write)?;
+        state = fed.state;
+        rest = &rest[fed.used..];
     }
-    Fed {
-        state: s,
-        goes_on: !s.stopped,
-    }
-}
-
-// Writes what the end of the input adds.
-fn end_report(ends: &Ends, state: TraceState, frame: &[u8; 4096]) {
-    let mut last = [0u8; 135];
-    let n = trace::finish(state, frame, &mut last);
-    write_part(ends, &last[..n]);
+    Ok(state)
 }
 
 // Reads blocks, as they come, until the input ends or nothing more is to be reported.
-fn report_input(ends: &mut Ends, block: &mut [u8], frame: &mut [u8; 4096], out: &mut [u8])
-    requires { 22 ≤ length out.old }
-{
+fn report_input(
+    input: &mut Stdin,
+    output: &Stdout,
+    block: &mut [u8; 65536],
+    frame: &mut [u8; 4096],
+    out: &mut [u8; 65536],
+) -> Result<(), Failure> {
     let mut first = [0u8; 27];
-    let mut s = trace::start(&mut first);
-    if !write_part(ends, &first) {
-        return;
-    }
+    let mut state = trace::start(&mut first);
+    output.write_all(&first).map_err(Failure::Write)?;
     // As many reads as a number can count: the language has no endless loop.
-    let mut turns = u64::MAX;
-    while turns > 0 {
-        let n = match ends.input.read(block) {
-            Ok(n) => n,
-            Err(error) => {
-                tell(ends, b"replay: the trace cannot be read", &error);
-                return;
-            }
-        };
+    for _ in 0..u64::MAX {
+        let n = input.read(block).map_err(Failure::Read)?;
         if n == 0 {
-            end_report(ends, s, frame);
-            return;
+            let mut last = [0u8; 135];
+            let written = trace::finish(state, frame, &mut last);
+            return output.write_all(&last[..written]).map_err(Failure::Write);
         }
-        let p = feed_block(ends, s, &block[..n], frame, out);
-        if !p.goes_on {
-            return;
+        state = feed_block(output, state, &block[..n], frame, out)?;
+        if state.stopped {
+            break;
         }
-        s = p.state;
-        turns -= 1;
     }
+    Ok(())
 }
 
 fn main(rt: HostRuntime) {
-    let mut ends = Ends {
-        input: rt.stdin(),
-        output: rt.stdout(),
-        errors: rt.stderr(),
-    };
+    let mut input = rt.stdin();
     let mut block = [0u8; 65536];
     let mut frame = [0u8; 4096];
     let mut out = [0u8; 65536];
-    report_input(&mut ends, &mut block, &mut frame, &mut out);
+    if let Err(failure) = report_input(&mut input, &rt.stdout(), &mut block, &mut frame, &mut out) {
+        tell(&rt.stderr(), &failure);
+    }
 }

@@ -45,8 +45,10 @@ none_left room (b ∷ s) r h = absurd (omega arith)
 abbrev pub after : TraceState → List ℕ → List ℕ → ℕ → Reading
 after s frame block i = reads (begun s frame) (take i block)
 
--- What holds at each turn of the loop over a block.
-pub record Running (s₀ : TraceState) (block frame₀ out₀ : List ℕ) (s : TraceState) (frame : List ℕ) (i w : ℕ) (out : List ℕ) : Type 0 where
+-- What holds at each turn of the loop over a block, with the rest behind its first i bytes.
+pub record Running (s₀ : TraceState) (block frame₀ out₀ : List ℕ) (s : TraceState) (frame rest : List ℕ) (w : ℕ) (out : List ℕ) : Type 0 where
+  pub i : ℕ
+  pub rest_is : rest ≡ drop i block
   pub word : length block < 2 ^ 64
   pub there : i ≤ length block
   pub same : length out ≡ length out₀
@@ -58,10 +60,12 @@ pub record Running (s₀ : TraceState) (block frame₀ out₀ : List ℕ) (s : T
   pub out_is : out ≡ stored out₀ 0 (after s₀ frame₀ block i).text
   pub used_is : feed_used s₀ frame₀ block (length out₀) ≡ i + taken (length out₀) (after s₀ frame₀ block i) (drop i block)
 
-pub running_starts : (s : TraceState) (block frame out : List ℕ) → length block < 2 ^ 64 → Running s block frame out s frame 0 0 out
+pub running_starts : (s : TraceState) (block frame out : List ℕ) → length block < 2 ^ 64 → Running s block frame out s frame block 0 out
 unfolding reads feed_used stored
 running_starts s block frame out word =
     record {
+      i = 0;
+      rest_is = refl;
       word = word;
       there = omega arith;
       same = refl;
@@ -80,31 +84,32 @@ Fed s₀ block frame₀ out₀ s frame i w out =
     (◌≡◌ {A = FeedAnswer} (record { state = s; used = i; written = w }) (feed_answer s₀ frame₀ block (length out₀)))
     × ((frame ≡ (feed_reading s₀ frame₀ block (length out₀)).frame) × ((out ≡ feed_buffer s₀ frame₀ block out₀) × ((i ≤ length block) × ((w ≤ length out₀) × (w ≤ 22 * i)))))
 
-module _ {s₀ s : TraceState} {block frame₀ out₀ frame out : List ℕ} {i w : ℕ} (x : Running s₀ block frame₀ out₀ s frame i w out) where
+module _ {s₀ s : TraceState} {block frame₀ out₀ frame rest out : List ℕ} {w : ℕ} (x : Running s₀ block frame₀ out₀ s frame rest w out) where
   abbrev r : Reading
-  r = after s₀ frame₀ block i
+  r = after s₀ frame₀ block x.i
+
+  left : length rest ≡ length block - x.i
+  left = ap length x.rest_is ∙ length-drop x.i block
 
   -- What bytes behind the first i give.
-  more_is : (u : ℕ) → reads r (take u (drop i block)) ≡ before r.text (reads (begun s frame) (take u (drop i block)))
+  more_is : (u : ℕ) → reads r (take u rest) ≡ before r.text (reads (begun s frame) (take u rest))
   more_is u =
-      ap (λ (z : Reading). reads z (take u (drop i block))) (whole r)
-      ∙ reads_before (take u (drop i block)) r.text (begun r.state r.frame)
-      ∙ ap (λ (z : TraceState). before r.text (reads (begun z r.frame) (take u (drop i block)))) (sym x.state_is)
-      ∙ ap (λ (z : List ℕ). before r.text (reads (begun s z) (take u (drop i block)))) (sym x.frame_is)
+      ap (λ (z : Reading). reads z (take u rest)) (whole r)
+      ∙ reads_before (take u rest) r.text (begun r.state r.frame)
+      ∙ ap (λ (z : TraceState). before r.text (reads (begun z r.frame) (take u rest))) (sym x.state_is)
+      ∙ ap (λ (z : List ℕ). before r.text (reads (begun s z) (take u rest))) (sym x.frame_is)
 
   -- One turn more.
-  pub running_more : (frame' out' : List ℕ) (t : Turn) → w + 22 ≤ length out → Turns s (take (length block - i) (drop i block)) frame out w t frame' out'
-      → Running s₀ block frame₀ out₀ t.state frame' (i + t.used) t.to out'
-  running_more frame' out' t room turns =
+  pub running_more : (frame' out' : List ℕ) (t : Turn) → w + 22 ≤ length out → Turns s rest frame out w t frame' out'
+      → Running s₀ block frame₀ out₀ t.state frame' (take (length rest - t.used) (drop t.used rest)) t.to out'
+  running_more frame' out' t room v =
       let u : ℕ = t.used in
-      let rest : List ℕ = drop i block in
-      let part : take (length block - i) rest ≡ rest = part_from i block in
-      let v : Turns s rest frame out w t frame' out' = rw part at turns in
+      let i : ℕ = x.i in
       let y : Reading = reads (begun s frame) (take u rest) in
       let is : before r.text y ≡ after s₀ frame₀ block (i + u) =
-      sym (ap (λ (z : List ℕ). reads (begun s₀ frame₀) z) (take-add i u block) ∙ reads_append (take i block) (take u rest) (begun s₀ frame₀) ∙ more_is u) in
+      sym (ap (λ (z : List ℕ). reads (begun s₀ frame₀) z) (take-add i u block) ∙ ap (λ (z : List ℕ). reads (begun s₀ frame₀) (take i block ++ take u z)) (sym x.rest_is) ∙ reads_append (take i block) (take u rest) (begun s₀ frame₀) ∙ more_is u) in
       let there = v.there in
-      let left : length rest ≡ length block - i = length-drop i block in
+      let room_left = left in
       let begun-there = x.there in
       let few = x.few in
       let some_used = v.some_used in
@@ -116,9 +121,12 @@ module _ {s₀ s : TraceState} {block frame₀ out₀ frame out : List ℕ} {i w
       let size_is : length out' ≡ length out₀ = ap length both ∙ length_stored out₀ 0 (r.text ++ y.text) in
       let long : length (r.text ++ y.text) ≡ length r.text + length y.text = length-append r.text y.text in
       let all = run_taken u (length out₀) rest r there (omega arith) (λ k h. ap (λ (z : Reading). z.text) (more_is k) ∙ ap (λ (z : List ℕ). r.text ++ z) (v.quiet k h) ∙ append-nil r.text) in
-      let used = x.used_is in
+      let used : feed_used s₀ frame₀ block (length out₀) ≡ i + taken (length out₀) r rest = x.used_is ∙ ap (λ (z : List ℕ). i + taken (length out₀) r z) (sym x.rest_is) in
       let next_is : reads r (take u rest) ≡ after s₀ frame₀ block (i + u) = more_is u ∙ is in
+      let next_rest : drop u rest ≡ drop (i + u) block = ap (λ (z : List ℕ). drop u z) x.rest_is ∙ drop-drop u i block in
       record {
+        i = i + u;
+        rest_is = part_from u rest ∙ next_rest;
         word = x.word;
         there = omega arith;
         same = size_is;
@@ -130,34 +138,25 @@ module _ {s₀ s : TraceState} {block frame₀ out₀ frame out : List ℕ} {i w
         out_is = both ∙ ap (λ (z : Reading). stored out₀ 0 z.text) is;
         used_is =
             let z : taken (length out₀) (reads r (take u rest)) (drop u rest) ≡ taken (length out₀) (after s₀ frame₀ block (i + u)) (drop (i + u) block) =
-            ap (λ (z : Reading). taken (length out₀) z (drop u rest)) next_is ∙ ap (λ (z : List ℕ). taken (length out₀) (after s₀ frame₀ block (i + u)) z) (drop-drop u i block) in
+            ap (λ (z : Reading). taken (length out₀) z (drop u rest)) next_is ∙ ap (λ (z : List ℕ). taken (length out₀) (after s₀ frame₀ block (i + u)) z) next_rest in
             omega arith;
       }
 
   -- Where the loop ends.
-  ends : taken (length out₀) r (drop i block) ≡ 0
-      → Fed s₀ block frame₀ out₀ s frame i w out
+  ends : taken (length out₀) r (drop x.i block) ≡ 0 → Fed s₀ block frame₀ out₀ s frame (length block - length rest) w out
   unfolding feed_reading
   ends None-more =
-      let used : feed_used s₀ frame₀ block (length out₀) ≡ i = let z = x.used_is in omega arith in
+      let used : feed_used s₀ frame₀ block (length out₀) ≡ x.i = let z = x.used_is in omega arith in
+      let at : length block - length rest ≡ x.i = let z = left in let h = x.there in omega arith in
       let a = x.same in
       let b = x.fits in
-      rw (used, ← x.state_is, ← x.written) (refl, (x.frame_is, (x.out_is, (x.there, (omega arith, x.few)))))
+      rw (at, used, ← x.state_is, ← x.written) (refl, (x.frame_is, (x.out_is, (x.there, (omega arith, x.few)))))
 
-  pub ends_full : length out - w < 22
-      → Fed s₀ block frame₀ out₀ s frame i w out
-  ends_full h = ends (none_taken (length out₀) (drop i block) r (let a = x.same in let b = x.fits in let c = x.written in omega arith))
+  pub ends_full : length out - w < 22 → Fed s₀ block frame₀ out₀ s frame (length block - length rest) w out
+  ends_full h = ends (none_taken (length out₀) (drop x.i block) r (let a = x.same in let b = x.fits in let c = x.written in omega arith))
 
-  pub ends_whole : length block ≤ i
-      → Fed s₀ block frame₀ out₀ s frame i w out
-  ends_whole h = ends (none_left (length out₀) (drop i block) r (rw length-drop (omega arith)))
-
--- The rest of a block.
-pub rest_some : (block : List ℕ) (i : ℕ) → i < length block → 0 < length (take (length block - i) (drop i block))
-rest_some block i h = rw (part_from, length-drop) (omega arith)
-
-pub rest_length : (block : List ℕ) (i u : ℕ) → i ≤ length block → u ≤ length (take (length block - i) (drop i block)) → i + u ≤ length block
-rest_length block i u h g = let z : u ≤ length block - i = rw (part_from, length-drop) at g in omega arith
+  pub ends_whole : length rest ≡ 0 → Fed s₀ block frame₀ out₀ s frame (length block - length rest) w out
+  ends_whole h = ends (none_left (length out₀) (drop x.i block) r (ap length (sym x.rest_is) ∙ h))
 
 -- Where a line has begun, and may, it is not too late for it.
 pub begun_few : (s : TraceState) → has_last_line s ≡ true → s.sums.lines < 1_000_000

@@ -103,14 +103,14 @@ module _ (s : TraceState) (e : s.stopped ≡ false) where
     -- A part of a line.
     pub turn_part : (out after : List ℕ) (line : Line) (to u : ℕ) → u ≡ line_length text → u ≡ length text → 0 < length text
         → line ≡ line_after s.line (take (line_length text) text) → after ≡ frame_after s.line frame (take (line_length text) text)
-        → Turns s text frame out to (record { state = record { sums = s.sums; line = line; stopped = false }; used = u; to = to }) after out
+        → Turns s text frame out to (record { state = record s { line = line }; used = u; to = to }) after out
     unfolding stored
     turn_part out after line to u all whole h l f =
         let is : part_of s.sums s.line frame (take (line_length text) text) ≡ reads (begun s frame) (take u text) = rw all (sym (part_is (line_length text) (omega arith))) in
         record {
           some_used = omega arith;
           there = omega arith;
-          state_is = rw l (ap (λ (r : Reading). r.state) is);
+          state_is = ap (λ (q : Bool). record { sums = s.sums; line = line; stopped = q }) e ∙ rw l (ap (λ (r : Reading). r.state) is);
           frame_is = f ∙ ap (λ (r : Reading). r.frame) is;
           out_is = ap (λ (r : Reading). stored out to r.text) is;
           to_is = sym (add-zero to) ∙ ap (λ (r : Reading). to + length r.text) is;
@@ -122,7 +122,7 @@ module _ (s : TraceState) (e : s.stopped ≡ false) where
     pub turn_line : (out after o : List ℕ) (line : Line) (x : Ended) (to u : ℕ) → u ≡ line_length text → (u ≡ length text → ⊥) → length after ≡ 4_096
         → line ≡ line_after s.line (take (line_length text) text) → after ≡ frame_after s.line frame (take (line_length text) text)
         → o ≡ stored out to (line_text (s.sums.lines + 1) (frame_in line after)) → x ≡ ended_as s.sums (frame_in line after) to
-        → Turns s text frame out to (record { state = record { sums = x.sums; line = Digits 0; stopped = false }; used = u + 1; to = x.to }) after o
+        → Turns s text frame out to (record { state = record s { sums = x.sums; line = Digits 0 }; used = u + 1; to = x.to }) after o
     unfolding reads
     turn_line out after o line x to u all some_left size l f p q =
         let less : line_length text < length text = omega (arith, line_most text, some_left) in
@@ -137,7 +137,7 @@ module _ (s : TraceState) (e : s.stopped ≡ false) where
         record {
           some_used = omega arith;
           there = omega arith;
-          state_is = rw q (ap (λ (r : Reading). r.state) is);
+          state_is = ap (λ (q : Bool). record { sums = x.sums; line = Digits 0; stopped = q }) e ∙ rw q (ap (λ (r : Reading). r.state) is);
           frame_is = ap (λ (r : Reading). r.frame) is;
           out_is = p ∙ ap (λ (r : Reading). stored out to r.text) is;
           to_is = rw q (ap (λ (r : Reading). to + length r.text) is);

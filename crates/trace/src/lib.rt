@@ -2,16 +2,14 @@
 #![tactic(auto)]
 
 ghost use Rattle.std.specs.Prelude.{◌≡◌, ◌+◌, ◌*◌, ◌<◌, ◌≤◌, length};
-ghost use Rattle.std.proofs.Math.Option.{none};
 ghost use Rattle.wire.specs.Wire.{stored};
 ghost use Rattle.trace_line.specs.Line.{frame_in};
-ghost use Rattle.trace_line.specs.Internal.Taking.{Values};
 ghost use Rattle.trace_text.specs.Text.{heading};
 ghost use Rattle.trace.specs.Report.{line_text};
 ghost use Rattle.trace.specs.Feeding.{start_state, has_last_line, feed_answer, feed_reading, feed_buffer, finish_text};
-ghost use Rattle.trace.specs.Internal.Turns.{Turns, ended_as, plus_verdict};
+ghost use Rattle.trace.specs.Internal.Turns.{Turns, ended_as, plus_line, verdict_in};
 
-use trace_line::Line;
+use trace_line::{DigitTable, Line};
 use trace_text::{Sums, Verdict};
 
 // "inputs have at most 1,000,000 lines"
@@ -26,6 +24,7 @@ pub const MAX_LINE_BYTES: usize = 22;
 pub struct TraceState {
     pub sums: Sums,
     pub line: Line,
+    // Stays: the documented calls start, feed and finish take and answer this struct.
     pub stopped: bool,
 }
 
@@ -52,82 +51,71 @@ pub struct Turn {
     pub to: usize,
 }
 
-// The sums with one frame more.
-fn with_frame(t: Sums, v: Verdict) -> Sums
+// The sums with one line more, by what it got; a bad line gets nothing.
+fn with_line(t: Sums, verdict: Option<Verdict>) -> Sums
     requires { t.lines < 1000000 }
-    ensures { result ≡ plus_verdict t v }
+    ensures { result ≡ plus_line t verdict }
 {
-    if v.answer == 0 {
-        return Sums {
-            lines: t.lines + 1,
-            accepted: std::num::wrapping_add_u64(t.accepted, 1),
-            refused: t.refused,
-            bad: t.bad,
-            payload: std::num::wrapping_add_u64(t.payload, v.payload as u64),
-        };
-    }
-    Sums {
-        lines: t.lines + 1,
-        accepted: t.accepted,
-        refused: std::num::wrapping_add_u64(t.refused, 1),
-        bad: t.bad,
-        payload: t.payload,
+    let lines = t.lines + 1;
+    match verdict {
+        None => Sums {
+            lines,
+            bad: t.bad.wrapping_add(1),
+            ..t
+        },
+        Some(v) if v.answer == 0 => Sums {
+            lines,
+            accepted: t.accepted.wrapping_add(1),
+            payload: t.payload.wrapping_add(v.payload as u64),
+            ..t
+        },
+        Some(_) => Sums {
+            lines,
+            refused: t.refused.wrapping_add(1),
+            ..t
+        },
     }
 }
 
-// Ends a line that is bad.
-fn end_bad(t: Sums, out: &mut [u8], to: usize) -> Ended
-    requires { (t.lines < 1000000) × (to + 22 ≤ length out.old) }
-    ensures buffer { out.new ≡ stored out.old to (line_text (t.lines + 1) none) }
-    ensures answer { result ≡ ended_as t none to }
+// What a line gets that ends.
+fn judge_line(line: Line, frame: &[u8; 4096]) -> Option<Verdict>
+    ensures { result ≡ verdict_in (frame_in line frame.now) }
 {
-    let end = trace_text::put_bad(out, to, t.lines + 1);
-    Ended {
-        sums: Sums {
-            lines: t.lines + 1,
-            accepted: t.accepted,
-            refused: t.refused,
-            bad: std::num::wrapping_add_u64(t.bad, 1),
-            payload: t.payload,
-        },
-        to: end,
+    match line {
+        Line::Digits(n) if n % 2 == 0 && n <= trace_line::MAX_DIGITS => Some(trace_text::judge(
+            &frame[..n / 2],
+        )),
+        _ => None,
     }
 }
 
 // Ends a line: judges its frame and writes its line of the report.
-fn end_line(t: Sums, line: Line, frame: &[u8], out: &mut [u8], to: usize) -> Ended
-    requires { (t.lines < 1000000) × (length frame.now ≡ 4096) × (to + 22 ≤ length out.old) }
+fn end_line(t: Sums, line: Line, frame: &[u8; 4096], out: &mut [u8], to: usize) -> Ended
+    requires { (t.lines < 1000000) × (to + 22 ≤ length out.old) }
     ensures buffer { out.new ≡ stored out.old to (line_text (t.lines + 1) (frame_in line frame.now)) }
     ensures answer { result ≡ ended_as t (frame_in line frame.now) to }
 {
-    let Line::Digits(n) = line else {
-        return end_bad(t, out, to);
-    };
-    if n % 2 == 1 {
-        return end_bad(t, out, to);
-    }
-    if trace_line::MAX_DIGITS < n {
-        return end_bad(t, out, to);
-    }
-    let k = n / 2;
-    let v = trace_text::judge(&frame[..k]);
-    let end = trace_text::put_verdict(out, to, t.lines + 1, v);
+    let number = t.lines + 1;
+    let verdict = judge_line(line, frame);
     Ended {
-        sums: with_frame(t, v),
-        to: end,
+        sums: with_line(t, verdict),
+        to: match verdict {
+            Some(v) => trace_text::put_verdict(out, to, number, v),
+            None => trace_text::put_bad(out, to, number),
+        },
     }
 }
 
 // Takes the bytes up to the end of a line or of the text.
 fn take_line(
-    values: &[u8; 256],
+    table: &DigitTable,
     s: TraceState,
     text: &[u8],
-    frame: &mut [u8],
+    frame: &mut [u8; 4096],
     out: &mut [u8],
     to: usize,
 ) -> Turn
-    requires { Values 256 values.now × (0 < length text.now) × (length frame.old ≡ 4096) × (to + 22 ≤ length out.old) }
+    requires { (0 < length text.now) × (to + 22 ≤ length out.old) }
     ensures { Turns s text.now frame.old out.old to result frame.new out.new }
 {
     if s.stopped {
@@ -137,44 +125,33 @@ fn take_line(
             to,
         };
     }
-    let sums = s.sums;
-    let line = s.line;
-    if MAX_LINES <= sums.lines {
+    if MAX_LINES <= s.sums.lines {
         return Turn {
-            state: TraceState {
-                sums,
-                line,
-                stopped: true,
-            },
+            state: TraceState { stopped: true, ..s },
             used: 1,
             to: trace_text::put_too_long(out, to),
         };
     }
-    let part = trace_line::take_part(values, line, text, frame);
-    let used = part.used;
-    let begun = part.line;
-    if used == text.len() {
+    let part = trace_line::take_part(table, s.line, text, frame);
+    if part.used == text.len() {
         return Turn {
             state: TraceState {
-                sums,
-                line: begun,
-                stopped: false,
+                line: part.line,
+                ..s
             },
-            used,
+            used: part.used,
             to,
         };
     }
-    let next = used + 1;
-    let e = end_line(sums, begun, frame, out, to);
-    let after = e.sums;
+    let ended = end_line(s.sums, part.line, frame, out, to);
     Turn {
         state: TraceState {
-            sums: after,
+            sums: ended.sums,
             line: Line::Digits(0),
-            stopped: false,
+            ..s
         },
-        used: next,
-        to: e.to,
+        used: part.used + 1,
+        to: ended.to,
     }
 }
 
@@ -185,13 +162,7 @@ pub fn start(out: &mut [u8; 27]) -> TraceState
 {
     trace_text::put_heading(out);
     TraceState {
-        sums: Sums {
-            lines: 0,
-            accepted: 0,
-            refused: 0,
-            bad: 0,
-            payload: 0,
-        },
+        sums: Sums::default(),
         line: Line::Digits(0),
         stopped: false,
     }
@@ -204,43 +175,29 @@ pub fn feed(state: TraceState, block: &[u8], frame: &mut [u8; 4096], out: &mut [
     ensures buffer { out.new ≡ feed_buffer state frame.old block.now out.old }
     ensures within { (result.used ≤ length block.now) × ((result.written ≤ length out.old) × (result.written ≤ 22 * result.used)) }
 {
-    let values = trace_line::digit_values();
-    let mut s = state;
-    let mut i = 0;
-    let mut w = 0;
-    while i < block.len() {
-        if out.len() - w < MAX_LINE_BYTES {
-            return FeedAnswer {
-                state: s,
-                used: i,
-                written: w,
-            };
-        }
-        let t = take_line(&values, s, &block[i..], &mut frame[..], out, w);
-        s = t.state;
-        i += t.used;
-        w = t.to;
+    let table = DigitTable::new();
+    let mut state = state;
+    let mut rest = block;
+    let mut written = 0;
+    while out.len() - written >= MAX_LINE_BYTES && !rest.is_empty() {
+        let turn = take_line(&table, state, rest, frame, out, written);
+        state = turn.state;
+        rest = &rest[turn.used..];
+        written = turn.to;
     }
     FeedAnswer {
-        state: s,
-        used: i,
-        written: w,
+        state,
+        used: block.len() - rest.len(),
+        written,
     }
 }
 
 // Whether bytes stand behind the last newline.
+#[tactic(auto, unfolding(crate::specs::Report::max_lines, trace_line::specs::Line::is_begun))]
 fn has_begun(s: TraceState) -> bool
     ensures { result ≡ has_last_line s }
 {
-    let sums = s.sums;
-    if MAX_LINES <= sums.lines {
-        return false;
-    }
-    let line = s.line;
-    match line {
-        Line::Digits(n) => n != 0,
-        Line::Bad => true,
-    }
+    s.sums.lines < MAX_LINES && !matches!(s.line, Line::Digits(0))
 }
 
 // Ends the report: the line that has begun, if any, and the sums, 22 and 113 bytes at most; nothing behind `too long`.
@@ -252,14 +209,11 @@ pub fn finish(state: TraceState, frame: &[u8; 4096], out: &mut [u8; 135]) -> usi
     if state.stopped {
         return 0;
     }
-    let sums = state.sums;
     if has_begun(state) {
         // The end of the input ends the line as a newline does. (`end_line` is then called in one place alone, and compiled into the loop.)
         let mut held = *frame;
-        let fed = feed(state, b"\n", &mut held, &mut out[..]);
-        let after = fed.state;
-        let all = after.sums;
-        return trace_text::put_sums(&mut out[..], fed.written, all);
+        let fed = feed(state, b"\n", &mut held, out);
+        return trace_text::put_sums(out, fed.written, fed.state.sums);
     }
-    trace_text::put_sums(&mut out[..], 0, sums)
+    trace_text::put_sums(out, 0, state.sums)
 }

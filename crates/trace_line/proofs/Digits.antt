@@ -6,53 +6,26 @@ use mathlib.Core.List.{List, [], ◌∷◌, ◌++◌, append_assoc}
 use Prim.Native.Nat.{ℕ, zero, suc, ◌+◌, ◌-◌, ◌*◌, ◌/◌, ◌%◌, ◌≤◌, ◌<◌}
 use native.Mathlib.Numerals.{add-one}
 use native.Mathlib.Omega.{arith}
-use borrow.Author.Tests.{lt-ltb, ltb-true, ltb-false, eqb-true, eqb-false, le-leb, lt-leb}
+use borrow.Author.Tests.{lt-ltb, ltb-true, eqb-true, le-leb, lt-leb}
 use lib.ListN.{length, take, drop, get_or, set, length-take}
-use lib.Seq.{take-suc, drop-cons, set_at, set-set, get_or-set_same, get_or-set_other}
+use lib.Seq.{take-suc, drop-cons, set_at, set-set, get_or-set_same}
 use lib.Dec.{eqb}
 use Rattle.trace_line.specs.Line.{newline, value_of, is_digit, all_digits, bytes_of, with_digit}
-use Rattle.trace_line.specs.Internal.Taking.{table_value, Values}
+use Rattle.std.proofs.Common.{◌⊎◌, inl, inr}
+use Rattle.std.specs.Prelude.{Some, None}
+use Rattle.trace_line.specs.Internal.Taking.{table_value, digit_of, Pairs}
 
 -- What a character stands for, by the ranges that its code is in.
-pub below_digits : (b : ℕ) → b < 48 → value_of b ≡ 16
-unfolding value_of
-below_digits b h = rw (lt-leb 48 b h, lt-leb 65 b (omega arith), lt-leb 97 b (omega arith))
-
 pub in_digits : (b : ℕ) → 48 ≤ b → b ≤ 57 → value_of b ≡ b - 48
 unfolding value_of
 in_digits b h g = rw (le-leb 48 b h, le-leb b 57 g)
-
-pub below_upper : (b : ℕ) → 57 < b → b < 65 → value_of b ≡ 16
-unfolding value_of
-below_upper b h g = rw (lt-leb b 57 h, le-leb 48 b (omega arith), lt-leb 65 b g, lt-leb 97 b (omega arith))
-
-pub in_upper : (b : ℕ) → 65 ≤ b → b ≤ 70 → value_of b ≡ b - 55
-unfolding value_of
-in_upper b h g = rw (lt-leb b 57 (omega arith), le-leb 48 b (omega arith), le-leb 65 b h, le-leb b 70 g)
-
-pub below_lower : (b : ℕ) → 70 < b → b < 97 → value_of b ≡ 16
-unfolding value_of
-below_lower b h g = rw (lt-leb b 57 (omega arith), le-leb 48 b (omega arith), le-leb 65 b (omega arith), lt-leb b 70 h, lt-leb 97 b g)
 
 pub in_lower : (b : ℕ) → 97 ≤ b → b ≤ 102 → value_of b ≡ b - 87
 unfolding value_of
 in_lower b h g =
     rw (lt-leb b 57 (omega arith), le-leb 48 b (omega arith), le-leb 65 b (omega arith), lt-leb b 70 (omega arith), le-leb 97 b h, le-leb b 102 g)
 
-pub behind_lower : (b : ℕ) → 102 < b → value_of b ≡ 16
-unfolding value_of
-behind_lower b h =
-    rw (lt-leb b 57 (omega arith), le-leb 48 b (omega arith), le-leb 65 b (omega arith), lt-leb b 70 (omega arith), le-leb 97 b (omega arith), lt-leb b 102 h)
-
 -- Its value in the table.
-pub table_other : (b : ℕ) → value_of b ≡ 16 → 63 ≡ table_value b
-unfolding table_value
-table_other b e = rw e
-
-pub table_digit : (b x : ℕ) → value_of b ≡ x → x < 16 → x ≡ table_value b
-unfolding table_value
-table_digit b x e h = rw (e, lt-ltb x 16 h)
-
 pub table_is : (b : ℕ) → table_value b < 63 → (table_value b ≡ value_of b) × (value_of b < 16)
 unfolding table_value
 table_is b h = by_test (is_digit b) refl h
@@ -61,21 +34,30 @@ table_is b h = by_test (is_digit b) refl h
     by_test true e g = (refl, ltb-true (value_of b) 16 e)
     by_test false e g = absurd (omega arith)
 
-pub table_none : (b : ℕ) → 63 ≤ table_value b → 16 ≤ value_of b
+pub table_either : (b : ℕ) → (table_value b < 16) ⊎ (table_value b ≡ 63)
 unfolding table_value
+table_either b = by_test (is_digit b) refl
+  where
+    by_test : (q : Bool) → is_digit b ≡ q → (cond q (value_of b) 63 < 16) ⊎ (cond q (value_of b) 63 ≡ 63)
+    by_test true e = inl (ltb-true (value_of b) 16 e)
+    by_test false e = inr refl
+
+-- The digit that it is, as the code finds it there.
+pub table_some : (b : ℕ) → table_value b < 63 → Some (table_value b) ≡ digit_of b
+unfolding table_value digit_of
+table_some b h = by_test (is_digit b) h
+  where
+    by_test : (q : Bool) → cond q (value_of b) 63 < 63 → Some (cond q (value_of b) 63) ≡ cond q (Some (value_of b)) None
+    by_test true g = refl
+    by_test false g = absurd (omega arith)
+
+pub table_none : (b : ℕ) → 63 ≤ table_value b → None ≡ digit_of b
+unfolding table_value digit_of
 table_none b h = by_test (is_digit b) refl h
   where
-    by_test : (q : Bool) → is_digit b ≡ q → 63 ≤ cond q (value_of b) 63 → 16 ≤ value_of b
+    by_test : (q : Bool) → is_digit b ≡ q → 63 ≤ cond q (value_of b) 63 → None ≡ cond q (Some (value_of b)) None
     by_test true e g = let z = ltb-true (value_of b) 16 e in absurd (omega arith)
-    by_test false e g = ltb-false (value_of b) 16 e
-
-pub table_most : (b : ℕ) → table_value b ≤ 63
-unfolding table_value
-table_most b = by_test (is_digit b) refl
-  where
-    by_test : (q : Bool) → is_digit b ≡ q → cond q (value_of b) 63 ≤ 63
-    by_test true e = let z = ltb-true (value_of b) 16 e in omega arith
-    by_test false e = omega arith
+    by_test false e g = refl
 
 -- Four values whose sum is below that of no digit are digits.
 pub record Four (a b c d x y z w : ℕ) : Type 0 where
@@ -104,15 +86,6 @@ four_digits {a} {b} {c} {d} {x} {y} {z} {w} e f g h less =
       c_low = omega (arith, r.0, r.1);
       d_low = omega (arith, s.0, s.1);
     }
-
--- The table with one character more.
-pub values_next : (n x : ℕ) (table : List ℕ) → Values n table → n < length table → x ≡ table_value n → Values (n + 1) (set table n x)
-unfolding Values
-values_next n x table v h e b g = by_test (eqb b n) refl
-  where
-    by_test : (q : Bool) → eqb b n ≡ q → get_or (set table n x) b 0 ≡ table_value b
-    by_test true same = let z = eqb-true b n same in rw (z, get_or-set_same table n x 0 h) e
-    by_test false other = rw (get_or-set_other table n b x 0 (eqb-false b n other)) (v b (omega (arith, eqb-false b n other)))
 
 -- Digits, one list behind another.
 pub all_append : (x y : List ℕ) → all_digits (x ++ y) ≡ (all_digits x && all_digits y)
@@ -186,6 +159,23 @@ module _ (text frame₀ : List ℕ) (k a b c d : ℕ) (h : 2 * k + 3 < length te
       let first = pair_digits text frame₀ k (omega arith) e (omega arith) (omega arith) in
       let second = pair_digits text frame₀ (k + 1) (omega arith) first (rw third (omega arith)) (rw fourth (omega arith)) in
       rw two at second
+
+-- No pair is decoded; two pairs more are.
+pub pairs_none : (text frame : List ℕ) → Pairs text frame 0 frame
+unfolding all_digits bytes_of
+pairs_none text frame = record { there = omega arith; room = omega arith; digits = refl; bytes = refl }
+
+pub pairs_next : {text frame₀ frame : List ℕ} {k a b c d : ℕ} → Pairs text frame₀ k frame → 2 * k + 3 < length text → k + 1 < length frame₀
+    → a ≡ table_value (get_or text (2 * k) 0) → b ≡ table_value (get_or text (2 * k + 1) 0) → c ≡ table_value (get_or text (2 * k + 2) 0) → d ≡ table_value (get_or text (2 * k + 3) 0) → a + b + c + d < 63
+    → Pairs text frame₀ (k + 2) (set (set frame k (a * 16 + b)) (k + 1) (c * 16 + d))
+pairs_next {text} {frame₀} {frame} {k} p there room e f g h less =
+    let four = four_digits e f g h less in
+    record {
+      there = omega arith;
+      room = omega arith;
+      digits = pairs_digits text frame₀ k _ _ _ _ there four.a_is four.b_is four.c_is four.d_is p.digits four.a_low four.b_low four.c_low four.d_low;
+      bytes = pairs_more text frame₀ k _ _ _ _ there four.a_is four.b_is four.c_is four.d_is frame room p.bytes;
+    }
 
 -- A digit is no newline.
 pub no_newline : (b : ℕ) → is_digit b ≡ true → eqb b newline ≡ false

@@ -1,13 +1,13 @@
 -- Laws about the parts of a line: bytes taken one by one, in pairs, and one part behind another.
 -- Assumes nothing.
 use mathlib.Core.Path.{◌≡◌, refl, sym, ap, ◌∙◌}
-use mathlib.Core.Bool.{Bool, true, false, cond, ◌&&◌, and-false}
+use mathlib.Core.Bool.{Bool, true, false, cond, ◌&&◌}
 use mathlib.Core.List.{List, [], ◌∷◌, ◌++◌}
 use Prim.Native.Nat.{ℕ, zero, suc, ◌+◌, ◌-◌, ◌*◌, ◌/◌, ◌%◌, ◌≤◌, ◌<◌}
 use native.Mathlib.Numerals.{add-one}
 use native.Mathlib.Nat.{add-zero}
 use native.Mathlib.Omega.{arith}
-use borrow.Author.Tests.{lt-ltb, le-ltb, eqb-true, eq-eqb, ne_eqb}
+use borrow.Author.Tests.{lt-ltb, eqb-true, eq-eqb, ne_eqb}
 use lib.ListN.{length, take, drop, get_or, set, length-take, length-drop, length-set, drop_of_length-le}
 use lib.Seq.{take-add, drop-cons, drop-drop, take-suc}
 use lib.Dec.{ltb, eqb}
@@ -106,25 +106,6 @@ digit_frame : (n b : ℕ) (frame : List ℕ) → is_digit b ≡ true → n < max
 unfolding next_frame
 digit_frame n b frame d h = rw (d, lt-ltb n max_digits h)
 
--- What one byte does, as the code finds it.
-pub was_bad : (line : Line) (b : ℕ) (frame : List ℕ) → line ≡ Bad → (Bad ≡ next_line line b) × (frame ≡ next_frame line frame b)
-unfolding next_line next_frame
-was_bad line b frame e = rw e (refl, refl)
-
-pub no_digit : (line : Line) (n b : ℕ) (frame : List ℕ) → line ≡ Digits n → 16 ≤ value_of b → (Bad ≡ next_line line b) × (frame ≡ next_frame line frame b)
-unfolding next_line next_frame
-no_digit line n b frame e h = rw (e, le-ltb (value_of b) 16 h) (refl, refl)
-
-pub one_too_many : (line : Line) (n b : ℕ) (frame : List ℕ) → line ≡ Digits n → max_digits ≤ n → (Bad ≡ next_line line b) × (frame ≡ next_frame line frame b)
-unfolding next_line next_frame
-one_too_many line n b frame e h = rw (e, le-ltb n max_digits h, and-false (is_digit b)) (refl, refl)
-
-pub one_digit : (line : Line) (n b value : ℕ) (frame after : List ℕ) → line ≡ Digits n → value ≡ value_of b → value < 16 → n < max_digits → after ≡ with_digit n value frame
-    → (Digits (n + 1) ≡ next_line line b) × (after ≡ next_frame line frame b)
-one_digit line n b value frame after e v d h f =
-    let is : is_digit b ≡ true = lt-ltb (value_of b) 16 (omega arith) in
-    rw (e, digit_line n b is h, digit_frame n b frame is h, ← v) (refl, f)
-
 -- Pairs of digits.
 pairs_line : (m n : ℕ) (text : List ℕ) → length text ≡ 2 * m → all_digits text ≡ true → n + 2 * m ≤ max_digits → line_after (Digits n) text ≡ Digits (n + 2 * m)
 unfolding line_after all_digits
@@ -171,9 +152,8 @@ takes_next line begun next text frame now after i t h other e f =
     }
 
 -- All bytes before the newline are taken.
-pub takes_all : {line begun : Line} {text frame after : List ℕ} {i : ℕ} → Takes line text frame (record { line = begun; used = i }) after → line_length (drop i text) ≡ 0
-    → Takes line text frame (record { line = begun; used = i }) after × (i ≡ line_length text)
-takes_all t none_left = (t, let b = t.before_newline in omega arith)
+pub takes_all : {line begun : Line} {text frame after : List ℕ} {i : ℕ} → Takes line text frame (record { line = begun; used = i }) after → line_length (drop i text) ≡ 0 → i ≡ line_length text
+takes_all t none_left = let b = t.before_newline in omega arith
 
 -- Two parts of a text.
 pub takes_then : (line : Line) (text frame frame₁ frame₂ : List ℕ) (p q : Part) → Takes line text frame p frame₁ → Takes p.line (drop p.used text) frame₁ q frame₂
@@ -192,12 +172,12 @@ takes_then line text frame frame₁ frame₂ p q t u =
 
 -- Pairs that were decoded into a part of the frame buffer, which is put back.
 pub takes_pairs : (n m : ℕ) (text frame after : List ℕ) → n % 2 ≡ 0 → n ≤ max_digits → length frame ≡ 4_096
-    → Pairs text (take (length frame - n / 2) (drop (n / 2) frame)) m after
-    → Takes (Digits n) text frame (record { line = Digits (n + 2 * m); used = 2 * m }) (take (n / 2) frame ++ (after ++ drop (length frame - n / 2) (drop (n / 2) frame)))
+    → Pairs text (take (4_096 - n / 2) (drop (n / 2) frame)) m after
+    → Takes (Digits n) text frame (record { line = Digits (n + 2 * m); used = 2 * m }) (take (n / 2) frame ++ (after ++ drop (4_096 - n / 2) (drop (n / 2) frame)))
 takes_pairs n m text frame after even few size p =
     let k : ℕ = n / 2 in
     let there = p.there in
-    let room : k + m ≤ length frame = let r = p.room in let l : length (take (length frame - k) (drop k frame)) ≡ length frame - k = simp (length-take, length-drop) (omega arith) in omega arith in
+    let room : k + m ≤ length frame = let r = p.room in let l : length (take (4_096 - k) (drop k frame)) ≡ 4_096 - k = simp (length-take, length-drop) (omega arith) in omega arith in
     let two : length (take (2 * m) text) ≡ 2 * m = simp length-take (omega arith) in
     let long : length (bytes_of (take (2 * m) text)) ≡ m = bytes_length m (take (2 * m) text) two in
     let twice : n ≡ 2 * k = omega arith in
@@ -206,8 +186,8 @@ takes_pairs n m text frame after even few size p =
       before_newline = digits_on (2 * m) text there p.digits;
       line_is = sym (pairs_line m n (take (2 * m) text) two p.digits (omega arith));
       frame_is =
-          rw p.bytes (ap (λ (j : ℕ). take k frame ++ ((bytes_of (take (2 * m) text) ++ drop j (take (length frame - k) (drop k frame))) ++ drop (length frame - k) (drop k frame))) (sym long)
-          ∙ lent_back k frame (bytes_of (take (2 * m) text)) (omega arith)
+          rw p.bytes (ap (λ (j : ℕ). take k frame ++ ((bytes_of (take (2 * m) text) ++ drop j (take (4_096 - k) (drop k frame))) ++ drop (4_096 - k) (drop k frame))) (sym long)
+          ∙ rw size at (lent_back k frame (bytes_of (take (2 * m) text)) (omega arith))
           ∙ sym (pairs_frame m n k (take (2 * m) text) frame two p.digits twice (omega arith) room));
     }
 
@@ -219,9 +199,6 @@ module _ (line : Line) (text frame frame₁ frame₂ frame₃ : List ℕ) (p q r
   all_three =
       takes_then line text frame frame₂ frame₃ (record { line = q.line; used = p.used + q.used }) r
       (takes_then line text frame frame₁ frame₂ p q t (rw part_from at u)) (rw part_from at v)
-
-  pub three_most : p.used + q.used + r.used ≤ length text
-  three_most = all_three.there
 
   pub takes_three : r.used ≡ line_length (take (length text - (p.used + q.used)) (drop (p.used + q.used) text))
       → (p.used + q.used + r.used ≡ line_length text) × ((r.line ≡ line_after line (take (line_length text) text)) × (frame₃ ≡ frame_after line frame (take (line_length text) text)))

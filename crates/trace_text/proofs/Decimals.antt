@@ -4,12 +4,13 @@ use mathlib.Core.Path.{◌≡◌, refl, sym, ap, ◌∙◌}
 use mathlib.Core.Bool.{Bool, true, false, cond}
 use mathlib.Core.List.{List, [], ◌∷◌, ◌++◌, append_assoc, append-nil}
 use Prim.Native.Nat.{ℕ, zero, suc, ◌+◌, ◌-◌, ◌*◌, ◌/◌, ◌%◌, ◌^◌, ◌≤◌, ◌<◌}
-use native.Mathlib.Nat.{pow-suc, add-zero, le_refl}
-use native.Mathlib.Numerals.{add-one}
+use native.Mathlib.Nat.{pow-suc}
 use native.Mathlib.Omega.{arith}
 use borrow.Author.Tests.{lt-ltb, le-ltb}
 use lib.ListN.{length, set, length-append, length-set}
 use lib.Dec.{ltb}
+use Rattle.std.specs.Prelude.{Option, Some, None, IfSome, IfNone}
+use Rattle.std.specs.Option.{unwrap_or}
 use Rattle.wire.specs.Wire.{stored}
 use Rattle.wire.proofs.Fields.{behind_first}
 use Rattle.trace_text.specs.Text.{digits, decimal}
@@ -76,6 +77,13 @@ decimal_long (suc k) n h g =
     let more = decimal_long k (n / 10) (omega arith) (omega arith) in
     omega (arith, decimal_longer n (omega arith) g)
 
+-- How many digits there are, by the powers of ten on either side, as the code finds them.
+pub counted : (n : ℕ) (o : Option ℕ) → n < 2 ^ 64 → IfNone o (n ≡ 0) → IfSome o (λ k. 10 ^ k ≤ n) → IfSome o (λ k. n < 10 * 10 ^ k) → IfSome o (λ k. k < 20) → unwrap_or o 0 + 1 ≡ length (decimal n)
+counted n None word none low high few = let one = ap length (decimal_one n (omega (arith, none))) in omega arith
+counted n (Some k) word none low high few =
+    let p = pow-suc 10 k in
+    omega (arith, decimal_long k n low word, decimal_short k n (omega arith) (omega arith))
+
 -- A number that is written from its last digit on: m is left, its digits end at i, and what stands behind was written.
 pub record Writing (out₀ : List ℕ) (to n : ℕ) (out : List ℕ) (m i : ℕ) : Type 0 where
   pub behind : List ℕ
@@ -129,53 +137,3 @@ module _ {out₀ out : List ℕ} {to n m i : ℕ} (w : Writing out₀ to n out m
       let long = ap length one in
       behind_first out₀ out (set out to (48 + m)) to i ((48 + m) ∷ []) w.behind w.text refl (omega arith)
       ∙ ap (λ (l : List ℕ). stored out₀ to l) (sym (w.whole ∙ ap (λ (l : List ℕ). l ++ w.behind) one))
-
--- Digits are counted: n has no fewer than k.
-pub record Counting (n k bound : ℕ) : Type 0 where
-  pub some_counted : 1 ≤ k
-  pub most : k ≤ 19
-  pub bound_is : bound ≡ 10 ^ k
-  pub long : k ≤ length (decimal n)
-  pub word : n < 2 ^ 64
-
-pub counting_starts : (n : ℕ) → n < 2 ^ 64 → Counting n 1 10
-counting_starts n word = record { some_counted = omega arith; most = omega arith; bound_is = refl; long = some_digit n; word = word }
-
-power_most : (j k : ℕ) → 10 ^ k ≤ 10 ^ (k + j)
-power_most zero k = rw add-zero (le_refl (10 ^ k))
-power_most (suc j) k =
-    let e : k + suc j ≡ suc (k + j) = omega arith in
-    rw e (let p = pow-suc 10 (k + j) in let h = power_most j k in omega arith)
-
-module _ {n k bound : ℕ} (c : Counting n k bound) where
-  pub counting_fits : k < 19 → bound ≤ 10 ^ 18
-  counting_fits h =
-      let e : k + (18 - k) ≡ 18 = omega arith in
-      rw c.bound_is (rw e at (power_most (18 - k) k))
-
-  pub counting_next : k < 19 → bound ≤ n → Counting n (k + 1) (bound * 10)
-  counting_next h g =
-      let e = c.bound_is in
-      let p = pow-suc 10 k in
-      record {
-        some_counted = omega arith;
-        most = omega arith;
-        bound_is = rw (add-one k) (omega arith);
-        long = rw (add-one k) (decimal_long k n (omega arith) c.word);
-        word = c.word;
-      }
-
-  pub counted_20 : 19 ≤ k → bound ≤ n → 20 ≡ length (decimal n)
-  counted_20 h g =
-      let few = c.most in
-      let e : k ≡ 19 = omega arith in
-      let b : bound ≡ 10 ^ 19 = rw e at c.bound_is in
-      omega (arith, decimal_long 19 n (omega arith) c.word, decimal_most n)
-
-pub counted : {n bound : ℕ} (k : ℕ) → Counting n k bound → n < bound → k ≡ length (decimal n)
-counted zero c h = let z = c.some_counted in absurd (omega arith)
-counted {n} (suc k) c h =
-    let few = c.most in
-    let long = c.long in
-    let b = c.bound_is in
-    omega (arith, decimal_short k n (omega arith) (omega arith))

@@ -1,12 +1,11 @@
 -- Laws about the lines of a report: how they are written piece by piece, and how long they are.
 -- Assumes nothing.
-use mathlib.Core.Path.{◌≡◌, refl, sym, ap, ◌∙◌}
-use mathlib.Core.List.{List, [], ◌∷◌, ◌++◌}
-use Prim.Native.Nat.{ℕ, ◌+◌, ◌≤◌, ◌<◌}
-use native.Mathlib.Numerals.{add-one}
+use mathlib.Core.Path.{◌≡◌, refl, sym}
+use mathlib.Core.List.{List, ◌++◌, append_assoc}
+use Prim.Native.Nat.{ℕ, ◌+◌, ◌-◌, ◌≤◌}
 use native.Mathlib.Omega.{arith}
-use lib.ListN.{length, take, get_or, set, length-append}
-use lib.Seq.{take-suc, take_all, length-take-le}
+use lib.ListN.{length, take, drop, length-append}
+use lib.Seq.{sets-eq, drop-drop}
 use Rattle.wire.specs.Wire.{stored}
 use Rattle.wire.proofs.Fields.{then}
 use Rattle.error_reply.specs.declared.ReplyKind.{ReplyKind}
@@ -18,14 +17,12 @@ use Rattle.trace_text.specs.declared.Sums.{Sums}
 use Rattle.trace_text.proofs.Decimals.{decimal_most, decimal_short}
 use Rattle.trace_text.proofs.Verdicts.{answer_low, payload_most}
 
--- A text is written byte by byte.
-pub text_more : (l s : List ℕ) (k i : ℕ) (out : List ℕ) → out ≡ stored l k (take i s) → i < length s → set out (k + i) (get_or s i 0) ≡ stored l k (take (i + 1) s)
+-- A text is copied into its place.
+pub copied : (l v w : List ℕ) (to : ℕ) → to + length v ≤ length l → w ≡ v → take to l ++ (w ++ drop (to + length v - to) (drop to l)) ≡ stored l to v
 unfolding stored
-text_more l s k i out e h =
-    rw (add-one, take-suc s i 0 h) (then l out (set out (k + i) (get_or s i 0)) k (k + i) (take i s) (get_or s i 0 ∷ []) e refl (ap (λ (n : ℕ). k + n) (length-take-le i s (omega arith))))
-
-pub text_done : (l s : List ℕ) (k i : ℕ) (out : List ℕ) → out ≡ stored l k (take i s) → length s ≤ i → out ≡ stored l k s
-text_done l s k i out e h = e ∙ rw (take_all i s h)
+copied l v w to h e =
+    let size : to + length v - to ≡ length v = omega arith in
+    rw (e, size, sets-eq v l to h, drop-drop) (sym (append_assoc (take to l) v (drop (to + length v) l)))
 
 -- A run behind another: both are one run, which ends where the second does.
 pub behind : (l : List ℕ) (i : ℕ) (a b : List ℕ) {m n : List ℕ} {j k : ℕ} → (m ≡ stored l i a) × (j ≡ i + length a) → (n ≡ stored m j b) × (k ≡ j + length b) → (n ≡ stored l i (a ++ b)) × (k ≡ i + length (a ++ b))

@@ -4,12 +4,12 @@ use mathlib.Core.Path.{◌≡◌, refl, sym, ap, ◌∙◌}
 use mathlib.Core.Bool.{Bool, true, false, cond}
 use mathlib.Core.List.{List, []}
 use mathlib.Core.Option.{none}
+use Rattle.std.specs.Prelude.{Result, Ok, Err}
 use Prim.Native.Nat.{ℕ, zero, suc, ◌-◌, ◌≤◌}
 use native.Mathlib.Omega.{arith}
 use lib.ListN.{length, drop, length-drop}
 use lib.Dec.{leb, eqb}
 use Rattle.wire.specs.Wire.{word_at, word_of}
-use Rattle.wire.specs.declared.Word.TheVariants as word
 use Rattle.chunk_lists.specs.Parsed.{Parsed, refused, done, and_then}
 use Rattle.chunk_lists.specs.Lists.{after_word, after_marker, optional, marker_of, read_list, counted, write_list, reply_chunk}
 use Rattle.chunk_lists.specs.declared.Marker.{Marker}
@@ -23,7 +23,6 @@ use Rattle.header.specs.declared.ErrorKind.TheVariants.{Version, Chunk}
 use Rattle.reader.specs.Frame.{three_parts, error_content, error_body, nothing_behind, by_procedure, read_frame, read_number, payload_of}
 use Rattle.reader.specs.Internal.Shape.{frame_check}
 use Rattle.reader.specs.declared.Shape.{Shape}
-use Rattle.reader.specs.declared.FrameCheck.TheVariants as walk
 use Rattle.reader.proofs.FrameParts.{found, unfound, payload_part, payload_short}
 use Rattle.error_reply.specs.Reply.{reply_kind_of, reply_kind_for}
 use Rattle.error_reply.specs.declared.ReplyKind.TheVariants.{None}
@@ -51,17 +50,17 @@ low_word : {A : Type 0} (s : List ℕ) (next : ℕ → Parsed A) → ((x : ℕ) 
 unfolding word_of
 low_word s next h = by_test (leb 4 (length s))
   where
-    by_test : (b : Bool) → Low (after_word (cond b (word.Value (word_at s 0)) (word.Refused 5)) next)
+    by_test : (b : Bool) → Low (after_word (cond {A = Result ℕ ℕ} b (Ok (word_at s 0)) (Err 5)) next)
     by_test true = h (word_at s 0)
     by_test false = omega arith
 
 low_optional : {A : Type 0} (absent : A) (present : List ℕ → Parsed A) (s : List ℕ) → ((t : List ℕ) → Low (present t)) → Low (optional absent present s)
 low_optional absent present s h = by_marker (marker_of s) refl
   where
-    by_marker : (m : Marker) → marker_of s ≡ m → Low (after_marker m (drop 4 s) absent present)
-    by_marker (marker.Refused n) e = let few = marker_number s n e in omega arith
-    by_marker marker.End e = tt
-    by_marker marker.Entry e = h (drop 4 s)
+    by_marker : (m : Result Marker ℕ) → marker_of s ≡ m → Low (after_marker m (drop 4 s) absent present)
+    by_marker (Err n) e = let few = marker_number s n e in omega arith
+    by_marker (Ok marker.End) e = tt
+    by_marker (Ok marker.Entry) e = h (drop 4 s)
 
 low_counted : (left : ℕ) (s : List ℕ) → Low (counted left s)
 low_counted left s = low_refused (counted left s) (count_number left s)
@@ -131,7 +130,7 @@ none_for s = by_test (leb 16 (length s)) (eqb (word_at s 12) 4)
     by_test false b = refl
 
 -- What a frame gets that was found to be right, and what one that was refused.
-pub judged_found : (s : List ℕ) (shape : Shape) → frame_check (length s) (read_frame s) ≡ walk.Found shape →
+pub judged_found : (s : List ℕ) (shape : Shape) → frame_check (length s) (read_frame s) ≡ Ok shape →
     (shape.end ≤ length s) × (record { answer = 0; payload = length s - shape.end; reply = None } ≡ verdict_of s)
 unfolding verdict_of answer payload reply_to
 judged_found s shape e =
@@ -140,7 +139,7 @@ judged_found s shape e =
     let size : length s - shape.end ≡ length f.behind = sym (length-drop shape.end s) ∙ ap length (part.1 ∙ ap payload_of f.read) in
     (part.0, rw (f.read, size, none_for s))
 
-pub judged_refused : (s : List ℕ) (n : ℕ) → frame_check (length s) (read_frame s) ≡ walk.Refused n →
+pub judged_refused : (s : List ℕ) (n : ℕ) → frame_check (length s) (read_frame s) ≡ Err n →
     (n ≤ 11) × (record { answer = n; payload = 0; reply = reply_kind_for s n } ≡ verdict_of s)
 unfolding verdict_of answer payload reply_to
 judged_refused s n e = let r = unfound s n e in (rw (ap read_number r) at (answer_low s), rw r)

@@ -1,29 +1,21 @@
 -- `trace::end_line` meets its contract.
-use Rattle.std.proofs.Common.{◌+◌, arith, length-take, rules}
-use Rattle.trace_line.proofs.Decoded.{in_bad, in_odd, in_long, in_whole}
-use Rattle.trace.proofs.Ends.{ended_frame, judged_short}
+use Rattle.std.proofs.Common.{◌+◌, ◌∙◌, ap, rules}
+use Rattle.trace_text.proofs.Texts.{bad_short}
+use Rattle.trace.specs.Internal.Turns.{plus_line}
+use Rattle.trace.proofs.Ends.{ended_some, ended_none, judged_short}
 use Rattle.trace.proofs.end_line.Goals as goal
 
--- The clauses, from all of them at once.
-clauses : {A B : Type 0} → A × B → record { buffer : A; answer : B }
-clauses p = record { buffer = p.0; answer = p.1 }
-
-pub returns-in_default : goal.returns-in_default
-returns-in_default c = clauses (rw (in_bad c.args.line c.args.frame.now c.in_default.is) (c.end_bad.ensures.buffer, c.end_bad.ensures.answer))
-
-pub returns-then-n-eq1 : goal.returns-then-n-eq1
-returns-then-n-eq1 c = clauses (rw (in_odd c.args.line _ c.args.frame.now c.in-Digits.is c.if-n-eq1.true) (c.end_bad-then-n-eq1.ensures.buffer, c.end_bad-then-n-eq1.ensures.answer))
-
-pub returns-then-n-gt-MAX_DIGITS : goal.returns-then-n-gt-MAX_DIGITS
-returns-then-n-gt-MAX_DIGITS c = clauses (rw (in_long c.args.line _ c.args.frame.now c.in-Digits.is (search rules)) (c.end_bad-then-n-gt-MAX_DIGITS.ensures.buffer, c.end_bad-then-n-gt-MAX_DIGITS.ensures.answer))
-
-pub slice_bounds-judge-end : goal.slice_bounds-judge-end
-slice_bounds-judge-end c = simp length-take (omega arith)
-
-pub put_verdict-end-requires : goal.put_verdict-end-requires
-put_verdict-end-requires c = let z = judged_short (c.args.t.lines + 1) _ c.judge-v.result c.judge-v.ensures (search rules) (simp length-take (omega arith)) in
+pub put_verdict-requires : goal.put_verdict-requires
+put_verdict-requires c = let z = judged_short (c.args.t.lines + 1) c.args.line c.args.frame.now _ c.in-Some.ensures (search rules) (search rules) in
     search rules
 
-pub returns : goal.returns
-returns c = clauses (let a = c.args in
-    ended_frame a.t _ _ _ _ a.out.now _ a.to _ c.judge-v.ensures (in_whole a.line _ a.frame.now c.in-Digits.is (search rules) (search rules)) c.put_verdict-end.ensures.buffer c.put_verdict-end.ensures.end c.with_frame.ensures)
+pub put_bad-requires : goal.put_bad-requires
+put_bad-requires c = let z = bad_short (c.args.t.lines + 1) (search rules) in search rules
+
+pub returns-in-Some : goal.returns-in-Some
+returns-in-Some c = let e = ended_some c.args.t _ c.in-Some.v _ c.args.out.now _ c.args.to _ c.in-Some.ensures (c.with_line.ensures ∙ ap (λ o. plus_line c.args.t o) c.in-Some.is) c.put_verdict.ensures.buffer c.put_verdict.ensures.end in
+    record { buffer = e.0; answer = e.1 }
+
+pub returns-in-None : goal.returns-in-None
+returns-in-None c = let e = ended_none c.args.t _ _ c.args.out.now _ c.args.to _ c.in-None.ensures (c.with_line.ensures ∙ ap (λ o. plus_line c.args.t o) c.in-None.is) c.put_bad.ensures.buffer c.put_bad.ensures.end in
+    record { buffer = e.0; answer = e.1 }

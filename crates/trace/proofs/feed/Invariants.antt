@@ -1,11 +1,10 @@
 -- `trace::feed` meets its contract.
-use Rattle.std.proofs.Common.{◌-◌, length}
-use Rattle.trace_line.specs.Internal.Taking.{Values}
+use Rattle.std.proofs.Common.{length}
 use Rattle.trace.proofs.Blocks.{Running}
 use Rattle.trace.proofs.feed.Given as goal
 
-abbrev pub invariant-loop-i : goal.invariant-loop-i
-invariant-loop-i l = Values 256 l.values × Running l.initial.s l.block l.initial.frame l.initial.out l.s l.frame l.i l.w l.out
+abbrev pub invariant-loop-out : goal.invariant-loop-out
+invariant-loop-out l = Running l.initial.state l.block l.initial.frame l.initial.out l.state l.frame l.rest l.written l.out
 
-abbrev pub decreases-loop-i : goal.decreases-loop-i
-decreases-loop-i l = length l.block - l.i
+abbrev pub decreases-loop-out : goal.decreases-loop-out
+decreases-loop-out l = length l.rest

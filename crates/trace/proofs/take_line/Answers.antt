@@ -1,5 +1,5 @@
 -- `trace::take_line` meets its contract.
-use Rattle.std.proofs.Common.{arith, rules}
+use Rattle.std.proofs.Common.{rules}
 use Rattle.trace_line.proofs.Parts.{line_most}
 use Rattle.trace.proofs.Turns.{turn_stopped, turn_full, turn_part, turn_line}
 use Rattle.trace.proofs.take_line.Goals as goal
@@ -8,19 +8,22 @@ pub returns-then-s : goal.returns-then-s
 returns-then-s c = let a = c.args in
     turn_stopped a.s a.text.now a.frame.now a.out.now a.to c.if-s.true (search rules)
 
-pub returns-then-sums-ge-MAX_LINES : goal.returns-then-sums-ge-MAX_LINES
-returns-then-sums-ge-MAX_LINES c = let a = c.args in
+pub returns-then-s-ge-MAX_LINES : goal.returns-then-s-ge-MAX_LINES
+returns-then-s-ge-MAX_LINES c = let a = c.args in
     turn_full a.s (search rules) a.text.now a.frame.now a.out.now _ a.to _ (search rules) (search rules) c.put_too_long.ensures.buffer c.put_too_long.ensures.end
 
-pub returns-then-used-text : goal.returns-then-used-text
-returns-then-used-text c = let a = c.args in
-    turn_part a.s (search rules) a.text.now a.frame.now (search rules) a.out.now _ _ a.to _ c.take_part-part.ensures.used (search rules) (search rules) c.take_part-part.ensures.line c.take_part-part.ensures.frame
+pub returns-then-part-text : goal.returns-then-part-text
+returns-then-part-text c = let a = c.args in
+    let p = c.take_part-part.ensures in
+    turn_part a.s (search rules) a.text.now a.frame.now (search rules) a.out.now _ _ a.to _ p.used (search rules) (search rules) p.line p.frame
 
-pub overflow_add-next : goal.overflow_add-next
-overflow_add-next c = let z = line_most c.args.text.now in
+pub overflow_add-result : goal.overflow_add-result
+overflow_add-result c = let z = line_most c.args.text.now in
     let e = c.take_part-part.ensures.used in
-    omega (arith, c.if-used-text.false)
+    search rules
 
 pub returns : goal.returns
 returns c = let a = c.args in
-    turn_line a.s (search rules) a.text.now a.frame.now (search rules) a.out.now _ _ _ _ a.to _ c.take_part-part.ensures.used (search rules) (search rules) c.take_part-part.ensures.line c.take_part-part.ensures.frame c.end_line-e.ensures.buffer c.end_line-e.ensures.answer
+    let p = c.take_part-part.ensures in
+    let e = c.end_line-ended.ensures in
+    turn_line a.s (search rules) a.text.now a.frame.now (search rules) a.out.now _ _ _ _ a.to _ p.used (search rules) (search rules) p.line p.frame e.buffer e.answer

@@ -1,7 +1,9 @@
 -- What the functions under `feed` answer.
 use Rattle.std.specs.Prelude.{◌≡◌, ℕ, ◌+◌, ◌%◌, ◌^◌, ◌<◌, ◌≤◌, cond, List, [], length, take, ◌==◌}
-use Rattle.std.proofs.Math.Option.{Option}
+use Rattle.std.proofs.Math.Option.{Option, none, some}
+use Rattle.std.specs.Prelude as std
 use Rattle.wire.specs.Wire.{stored}
+use Rattle.trace_text.specs.Verdict.{verdict_of}
 use Rattle.trace_text.specs.declared.Sums.{Sums}
 use Rattle.trace_text.specs.declared.Verdict.{Verdict}
 use Rattle.trace.specs.Report.{line_text}
@@ -18,6 +20,16 @@ ended_as t f to = record { sums = plus t f; to = to + length (line_text (t.lines
 unfoldable pub plus_verdict : Sums → Verdict → Sums
 plus_verdict t v =
     record { lines = t.lines + 1; accepted = (t.accepted + cond (v.answer == 0) 1 0) % 2 ^ 64; refused = (t.refused + cond (v.answer == 0) 0 1) % 2 ^ 64; bad = (t.bad + 0) % 2 ^ 64; payload = (t.payload + cond (v.answer == 0) v.payload 0) % 2 ^ 64 }
+
+-- The sums with one line more, by what it got: nothing where it is bad.
+unfoldable pub plus_line : Sums → std.Option Verdict → Sums
+plus_line t std.None = plus t none
+plus_line t (std.Some v) = plus_verdict t v
+
+-- What a line gets, by its frame.
+unfoldable pub verdict_in : Option (List ℕ) → std.Option Verdict
+verdict_in none = std.None
+verdict_in (some f) = std.Some (verdict_of f)
 
 -- The first bytes of a text were taken, and what they give was written from `to` on: by the last of them, if by any.
 pub record Turns (s : TraceState) (text frame out : List ℕ) (to : ℕ) (t : Turn) (frame' out' : List ℕ) : Type 0 where

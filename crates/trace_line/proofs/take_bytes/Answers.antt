@@ -1,26 +1,17 @@
 -- `trace_line::take_bytes` meets its contract.
-use mathlib.Core.Path.{refl}
-use borrow.Author.Rules.{rules}
+use Rattle.std.proofs.Common.{refl, rules}
 use Rattle.trace_line.proofs.Parts.{takes_none, takes_next, takes_all, line_stop, line_none}
 use Rattle.trace_line.proofs.take_bytes.Goals as goal
 
--- The clauses, from all of them at once.
-clauses : {A B : Type 0} → A × B → record { part : A; all : B }
-clauses p = record { part = p.0; all = p.1 }
+pub loop-used-init : goal.loop-used-init
+loop-used-init c = takes_none _ _ _ _ refl
 
--- src/lib.rt:186:5
-pub loop-i-init : goal.loop-i-init
-loop-i-init c = (search rules, takes_none _ _ _ _ refl)
+pub returns-then-b-eq-NEWLINE-clause-all : goal.returns-then-b-eq-NEWLINE-clause-all
+returns-then-b-eq-NEWLINE-clause-all c = takes_all c.loop-used.invariant (line_stop _ c.loop-used.used (search rules) c.if-b-eq-NEWLINE.true)
 
--- src/lib.rt:189:13
-pub returns-then-b-eq-NEWLINE : goal.returns-then-b-eq-NEWLINE
-returns-then-b-eq-NEWLINE c = clauses (let l = c.loop-i in takes_all l.invariant.1 (line_stop _ l.i (search rules) c.if-b-eq-NEWLINE.true))
+pub loop-used-preserved : goal.loop-used-preserved
+loop-used-preserved c = let l = c.loop-used in
+    takes_next _ _ _ _ _ _ _ l.used l.invariant (search rules) (search rules) c.take_byte-begun.ensures.line c.take_byte-begun.ensures.frame
 
--- src/lib.rt:186:5
-pub loop-i-preserved : goal.loop-i-preserved
-loop-i-preserved c = let l = c.loop-i in
-    (search rules, takes_next _ _ _ _ _ _ _ l.i l.invariant.1 (search rules) (search rules) c.take_byte-begun.ensures.line c.take_byte-begun.ensures.frame)
-
--- src/lib.rt:179:1
-pub returns : goal.returns
-returns c = clauses (let l = c.loop-i in takes_all l.invariant.1 (line_none _ l.i (search rules)))
+pub returns-clause-all : goal.returns-clause-all
+returns-clause-all c = let e = takes_all c.loop-used.invariant (line_none _ c.loop-used.used (search rules)) in search rules

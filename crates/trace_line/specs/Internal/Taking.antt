@@ -1,5 +1,5 @@
 -- What the functions that decode a part of a line answer.
-use Rattle.std.specs.Prelude.{ℕ, suc, ◌+◌, ◌*◌, ◌≤◌, ◌<◌, ◌≡◌, true, cond, List, [], ◌∷◌, ◌++◌, length, take, drop, get_or, eqb}
+use Rattle.std.specs.Prelude.{ℕ, suc, ◌+◌, ◌*◌, ◌≤◌, ◌<◌, ◌≡◌, true, cond, List, [], ◌∷◌, ◌++◌, length, take, drop, get_or, eqb, Option, Some, None}
 use Rattle.trace_line.specs.Line.{newline, value_of, is_digit, all_digits, bytes_of, next_line, next_frame}
 use Rattle.trace_line.specs.declared.Line.{Line}
 use Rattle.trace_line.specs.declared.Part.{Part}
@@ -8,8 +8,12 @@ use Rattle.trace_line.specs.declared.Part.{Part}
 unfoldable pub table_value : ℕ → ℕ
 table_value b = cond (is_digit b) (value_of b) 63
 
+-- The digit that a character is, if it is one.
+unfoldable pub digit_of : ℕ → Option ℕ
+digit_of b = cond (is_digit b) (Some (value_of b)) None
+
 -- A table that has the value of each of the first n characters.
-unfoldable pub Values : ℕ → List ℕ → Type 0
+abbrev pub Values : ℕ → List ℕ → Type 0
 Values n table = (b : ℕ) → b < n → get_or table b 0 ≡ table_value b
 
 -- How many bytes stand before the first newline.
