@@ -1,5 +1,6 @@
 -- No call gives 8 or 21.
 -- Assumes nothing.
+use Rattle.std.specs.Prelude.{Result, Ok, Err}
 use Prim.Native.Nat.{ℕ, zero, suc, ◌+◌, ◌-◌, ◌*◌, ◌%◌}
 use mathlib.Core.Path.{◌≡◌, refl}
 use mathlib.Core.Bool.{Bool, true, false, cond, not, ◌&&◌, ◌||◌}
@@ -9,7 +10,6 @@ use native.Mathlib.Omega.{arith}
 use lib.ListN.{length, drop}
 use lib.Dec.{leb, eqb}
 use Rattle.wire.specs.Wire.{word_at, word_of, segment_at}
-use Rattle.wire.specs.declared.Word.TheVariants as word
 use Rattle.wire.specs.declared.ReadSegment.{ReadSegment}
 use Rattle.answers.specs.Answers.{check, room_number}
 use Rattle.chunk_lists.specs.Parsed.{Parsed, refused, done, and_then, require, prepend, each}
@@ -81,7 +81,7 @@ other_word : {A : Type 0} (s : List ℕ) (f : ℕ → Parsed A) → ((x : ℕ) �
 unfolding word_of
 other_word s f a = by (leb 4 (length s))
   where
-    by : (b : Bool) → OtherRead (after_word (cond b (word.Value (word_at s 0)) (word.Refused 5)) f)
+    by : (b : Bool) → OtherRead (after_word (cond {A = Result ℕ ℕ} b (Ok (word_at s 0)) (Err 5)) f)
     by true = a (word_at s 0)
     by false = five
 
@@ -89,12 +89,12 @@ other_optional : {A : Type 0} (absent : A) (f : List ℕ → Parsed A) (s : List
 unfolding marker_of word_of
 other_optional absent f s a = by (leb 4 (length s))
   where
-    value : (x y : Bool) → OtherRead (after_marker (cond x marker.End (cond y marker.Entry (marker.Refused 6))) (drop 4 s) absent f)
+    value : (x y : Bool) → OtherRead (after_marker (cond x (Ok marker.End) (cond y (Ok marker.Entry) (Err 6))) (drop 4 s) absent f)
     value true y = tt
     value false true = a (drop 4 s)
     value false false = refl
 
-    by : (b : Bool) → OtherRead (after_marker (marker_word (cond b (word.Value (word_at s 0)) (word.Refused 5))) (drop 4 s) absent f)
+    by : (b : Bool) → OtherRead (after_marker (marker_word (cond {A = Result ℕ ℕ} b (Ok (word_at s 0)) (Err 5))) (drop 4 s) absent f)
     by true = value (eqb (word_at s 0) 0) (eqb (word_at s 0) 1)
     by false = five
 
