@@ -2,7 +2,7 @@
 -- Assumes nothing.
 use mathlib.Core.Path.{◌≡◌, refl, sym, ap, ◌∙◌}
 use mathlib.Core.Bool.{Bool, true, false, cond}
-use mathlib.Core.List.{List}
+use mathlib.Core.List.{List, []}
 use Prim.Native.Nat.{ℕ, ◌+◌, ◌≤◌, ◌<◌}
 use native.Mathlib.Omega.{arith}
 use Rattle.std.specs.Prelude.{Result, Ok, Err}
@@ -98,6 +98,15 @@ module _ (s : State) (room : ℕ) where
       let done = asked_done (Ok n) is n refl in
       rw (l, done.0, done.1) (within s room done.0, refl)
   asked_part (Err e) is out l = rw (l, ne_eqb number 0 (asked_refused e is).1) (omega arith, refl)
+
+-- The message is as long as asking says, and lies in the buffer.
+pub message_part_lem : (s : State) (out : List ℕ) → take (result_unwrap_or (message_answer s (length out)) 0) out ≡ message_part s out
+unfolding message_answer message_part
+message_part_lem s out = by (eqb (message_number s (length out)) 0)
+  where
+    by : (b : Bool) → take (result_unwrap_or (cond b (Ok (message_length s.base (chunks_of s))) (Err (message_number s (length out)))) 0) out ≡ cond b (take (message_length s.base (chunks_of s)) out) []
+    by true = refl
+    by false = refl
 
 -- What a piece leaves of the words, from what it answers.
 module _ (w : List ℕ) (room size : ℕ) where

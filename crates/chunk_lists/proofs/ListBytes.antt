@@ -8,7 +8,6 @@ use Prim.Native.Nat.{ℕ, zero, suc, ◌+◌, ◌-◌, ◌*◌, ◌≤◌}
 use native.Mathlib.Omega.{arith}
 use Rattle.std.specs.Prelude.{Some, None, Result, Ok, Err}
 use Rattle.chunk_lists.specs.declared.ListEnd.{ListEnd}
-use Rattle.chunk_lists.specs.declared.Chunks.{Chunks}
 use native.Mathlib.Nat.{suc-mul}
 use lib.ListN.{length, drop, length-drop, length-append}
 use lib.Seq.{drop-drop}
@@ -18,10 +17,10 @@ use Rattle.wire.specs.declared.Segment.{Segment}
 use Rattle.wire.specs.declared.ReadSegment.{ReadSegment}
 use Rattle.chunk_lists.specs.Parsed.{Parsed, refused, done, prepend, each}
 use Rattle.chunk_lists.specs.Lists.{marker_of, read_list, all_aligned, counted, write_list, reply_chunk}
-use Rattle.chunk_lists.specs.Internal.Steps.{chunk_step, list_check, found, marked_segment_at, chunks_at, ChunksFit}
+use Rattle.chunk_lists.specs.Internal.Steps.{chunk_step, list_check, marked_segment_at, chunks_at, ChunksFit}
 use Rattle.chunk_lists.specs.declared.Marker.{Marker}
 use Rattle.chunk_lists.specs.declared.Marker.TheVariants as marker
-use Rattle.chunk_lists.proofs.ListSteps.{write_answer, never, end_room, ReadFront, ends, faulty, another, read_front, ChunkFront, chunk_front, unmarked, full, uncounted, Chunk, chunk_of, writes_end, writes_unmarked, writes_full, writes_uncounted, writes_chunk, marker_number, count_number}
+use Rattle.chunk_lists.proofs.ListSteps.{never, end_room, ReadFront, ends, faulty, another, read_front, ChunkFront, chunk_front, unmarked, full, uncounted, Chunk, chunk_of, writes_end, writes_unmarked, writes_full, writes_uncounted, writes_chunk, marker_number, count_number}
 use Rattle.chunk_lists.proofs.ListSteps as laws
 
 -- A list that has one more entry in front.
@@ -145,29 +144,14 @@ read_number_lem (suc room) s n e = go (read_front (suc room) s) (read_number_lem
         let q : prepend x (read_list room (drop 24 s)) ≡ refused n = rw (← r) (sym is ∙ e) in
         again (drop 24 s) n (prepend_refused x (read_list room (drop 24 s)) n q)
 
--- A list by what was answered of its entries.
-pub record Found {A B : Type 0} (f : List A → B) (p : Parsed (List A)) (r : B) : Type 0 where
-  pub list : List A
-  pub behind : List ℕ
-  pub read : p ≡ done list behind
-  pub answer : r ≡ f list
-
-module _ {A B : Type 0} (f : List A → B) (p : Parsed (List A)) where
-  pub not_found : (n : ℕ) → Err n ≡ found f p → Err n ≡ list_check 0 p
-  unfolding found list_check
-  not_found n e = go p e
-    where
-      go : (q : Parsed (List A)) → Err n ≡ found f q → Err n ≡ list_check 0 q
-      go (refused m) same = cc
-      go (done l t) same = absurd (let z : ◌≡◌ {A = ℕ} 0 1 = cc in omega arith)
-
-  is_found : (r : B) → Ok r ≡ found f p → Found f p r
-  unfolding found
-  is_found r e = go p refl e
-    where
-      go : (q : Parsed (List A)) → p ≡ q → Ok r ≡ found f q → Found f p r
-      go (refused n) is same = absurd (let z : ◌≡◌ {A = ℕ} 0 1 = cc in omega arith)
-      go (done l t) is same = record { list = l; behind = t; read = is; answer = cc }
+-- A read list that is refused has no number above 9.
+pub entries_number_lem : (s : List ℕ) (n : ℕ) → Err n ≡ list_check 0 (read_list 16 s) → n ≤ 9
+unfolding list_check
+entries_number_lem s n e = go (read_list 16 s) refl e
+  where
+    go : (p : Parsed (List ReadSegment)) → read_list 16 s ≡ p → Err n ≡ list_check 0 p → n ≤ 9
+    go (refused m) is same = let equal : m ≡ n = cc in omega (arith, read_number_lem 16 s m is)
+    go (done l t) is same = absurd (let z : ◌≡◌ {A = ℕ} 0 1 = cc in omega arith)
 
 -- A write list that was read.
 pub record WritesAre (room left : ℕ) (s : List ℕ) (cs : List (List Segment)) (t : List ℕ) : Type 0 where
@@ -231,24 +215,27 @@ writes_of (suc room) left s cs t e = go (chunk_front (suc room) left s) (writes_
         let x = longer c (write_list room (left - length c) u) cs t p in
         rw x.is (writes_more room left s c u x.rest t (chunk_of left s c u m q) (again (left - length c) u x.rest t x.read))
 
--- The write list at the front of s, by how many chunks and segments were found.
-module _ (s : List ℕ) (r : Chunks) (e : Ok r ≡ found (write_answer 4 16) (write_list 4 16 s)) where
-  chunks_of : (4 + r.chunks * 8 + r.segments * 16 ≤ length s) × (Ok (record { entries = r.chunks; left = length s - 4 - r.chunks * 8 - r.segments * 16 }) ≡ list_check 0 (write_list 4 16 s))
-  unfolding list_check
-  chunks_of =
-      let k = is_found _ (write_list 4 16 s) r e in
-      let a = writes_of 4 16 s k.list k.behind k.read in
-      let chunks : r.chunks ≡ length k.list = omega (arith, ap (λ (c : Chunks). c.chunks) k.answer) in
-      let segments : r.segments ≡ length (joined (λ c. c) k.list) = omega (arith, ap (λ (c : Chunks). c.segments) k.answer) in
-      let left : length s - 4 - r.chunks * 8 - r.segments * 16 ≡ length k.behind = omega (arith, a.sized) in
-      let same : r.chunks ≡ 0 + length k.list = omega arith in
-      (omega (arith, a.sized), rw (k.read, left) (ap (λ (n : ℕ). Ok (record { entries = n; left = length k.behind })) same))
-
-  pub chunks_long : 4 + r.chunks * 8 + r.segments * 16 ≤ length s
-  chunks_long = chunks_of.0
-
-  pub chunks_done : Ok (record { entries = r.chunks; left = length s - 4 - r.chunks * 8 - r.segments * 16 }) ≡ list_check 0 (write_list 4 16 s)
-  chunks_done = chunks_of.1
+-- No fault of a write list has a number above 9.
+pub write_number_lem : (room left : ℕ) (s : List ℕ) (n : ℕ) → write_list room left s ≡ refused n → n ≤ 9
+write_number_lem zero left s n e = go (chunk_front zero left s)
+  where
+    go : ChunkFront zero left s → n ≤ 9
+    go (laws.ChunkFront.ends f m) = absurd (never (sym e ∙ writes_end left s zero m))
+    go (unmarked k f m) = let same : refused k ≡ refused n = sym (writes_unmarked left s zero k m) ∙ e in let equal : k ≡ n = cc in omega (arith, marker_number s k m)
+    go (full f m h) = let same : refused 7 ≡ refused n = sym (writes_full left s zero h m) ∙ e in let equal : 7 ≡ n = cc in omega arith
+    go (uncounted k f m h q) = absurd (omega arith)
+    go (laws.ChunkFront.another c u f m h q) = absurd (omega arith)
+write_number_lem (suc room) left s n e = go (chunk_front (suc room) left s) (write_number_lem room)
+  where
+    go : ChunkFront (suc room) left s → ((left : ℕ) (s : List ℕ) (n : ℕ) → write_list room left s ≡ refused n → n ≤ 9) → n ≤ 9
+    go (laws.ChunkFront.ends f m) again = absurd (never (sym e ∙ writes_end left s (suc room) m))
+    go (unmarked k f m) again = let same : refused k ≡ refused n = sym (writes_unmarked left s (suc room) k m) ∙ e in let equal : k ≡ n = cc in omega (arith, marker_number s k m)
+    go (full f m h) again = absurd (omega arith)
+    go (uncounted k f m h q) again = let same : refused k ≡ refused n = sym (writes_uncounted left s (suc room) k h m q) ∙ e in let equal : k ≡ n = cc in omega (arith, count_number left (drop 4 s) k q)
+    go (laws.ChunkFront.another c u f m h q) again =
+        let r : suc room - 1 ≡ room = omega arith in
+        let p : prepend c (write_list room (left - length c) u) ≡ refused n = rw (← r) (sym (writes_chunk left s (suc room) c u h m q) ∙ e) in
+        again (left - length c) u n (prepend_refused c (write_list room (left - length c) u) n p)
 
 -- An empty list, by its marker.
 module _ (s : List ℕ) (m : Result Marker ℕ) (is : m ≡ marker_of s) (ended : m ≡ Ok marker.End) where

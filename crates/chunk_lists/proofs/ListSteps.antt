@@ -5,18 +5,17 @@ use mathlib.Core.Bool.{Bool, true, false, cond}
 use mathlib.Core.List.{List, [], ◌∷◌}
 use Prim.Native.Nat.{ℕ, zero, suc, ◌+◌, ◌-◌, ◌*◌, ◌%◌, ◌≤◌, ◌<◌}
 use native.Mathlib.Omega.{arith}
-use native.Mathlib.Nat.{add-zero}
 use Rattle.std.specs.Prelude.{Option, Some, None, Result, Ok, Err}
 use borrow.Author.Tests.{leb-true, eqb-true, eqb-false, eq-eqb, ne_eqb, le-leb, lt-leb}
-use lib.ListN.{length, drop, length-drop, length-append}
+use lib.ListN.{length, drop, length-drop}
 use lib.Seq.{drop-drop}
 use lib.Dec.{leb, eqb, eqb-suc-zero}
-use Rattle.wire.specs.Wire.{word_at, word_of, segment_at, read_segment_at, joined}
+use Rattle.wire.specs.Wire.{word_at, word_of, segment_at, read_segment_at}
 use Rattle.wire.specs.declared.Segment.{Segment}
 use Rattle.wire.specs.declared.ReadSegment.{ReadSegment}
 use Rattle.chunk_lists.specs.Parsed.{Parsed, refused, done, and_then, require, prepend, each}
 use Rattle.chunk_lists.specs.Lists.{marker_word, marker_of, read_entry, read_list, segments, after_word, counted, write_list}
-use Rattle.chunk_lists.specs.Internal.Steps.{marked, read_step, one_more, entries_in_front, count_step, chunk_step, list_check, found, chunks_at, ChunksFit}
+use Rattle.chunk_lists.specs.Internal.Steps.{marked, read_step, one_more, entries_in_front, count_step, chunk_step, behind_step, room_behind, list_check, chunks_at, ChunksFit}
 use Rattle.chunk_lists.specs.declared.Chunks.{Chunks}
 use Rattle.chunk_lists.specs.declared.ListEnd.{ListEnd}
 use Rattle.chunk_lists.specs.declared.Marker.{Marker}
@@ -260,12 +259,6 @@ chunk_of left s c u m e =
       behind = h.behind ∙ rw (← n, drop-drop (4 + length c * 16) 4 s, eight);
     }
 
--- An entry in front of the rest, in what is answered.
-found_prepend : {A B : Type 0} (f g : List A → B) (x : A) (p : Parsed (List A)) → ((l : List A) → f l ≡ g (x ∷ l)) → found f p ≡ found g (prepend x p)
-unfolding found
-found_prepend f g x (refused n) e = refl
-found_prepend f g x (done l t) e = ap Ok (e l)
-
 -- The list goes on behind an entry.
 record Further (room : ℕ) (s : List ℕ) : Type 0 where
   first : ReadSegment
@@ -424,18 +417,6 @@ module _ (left : ℕ) (s : List ℕ) where
   writes_chunk zero c u h e q = absurd (omega arith)
   writes_chunk (suc room) c u h e q = let r : suc room - 1 ≡ room = omega arith in rw (e, q, r)
 
--- A chunk of n segments more, in what is answered.
-chunk_counts : (room left n a b c : ℕ) → 0 < room → room ≤ 4 → n ≤ left → left ≤ 16 → c ≡ n + b →
-    ◌≡◌ {A = Chunks} (record { chunks = 4 - (room - 1) + a; segments = 16 - (left - n) + b }) (record { chunks = 4 - room + suc a; segments = 16 - left + c })
-chunk_counts room left n a b c more few within most e =
-    let r : 4 - (room - 1) + a ≡ 4 - room + suc a = omega arith in
-    let l : 16 - (left - n) + b ≡ 16 - left + c = omega arith in
-    rw (r, l)
-
--- How many chunks and segments a write list of at most `room` chunks with at most `left` segments has.
-abbrev pub write_answer : ℕ → ℕ → List (List Segment) → Chunks
-write_answer room left = λ cs. record { chunks = 4 - room + length cs; segments = 16 - left + length (joined (λ c. c) cs) }
-
 -- The list goes on behind a chunk of n segments.
 record FurtherChunk (room left : ℕ) (s : List ℕ) (n : ℕ) : Type 0 where
   first : List Segment
@@ -445,31 +426,9 @@ record FurtherChunk (room left : ℕ) (s : List ℕ) (n : ℕ) : Type 0 where
   long : 8 + n * 16 ≤ length s
   is : write_list room left s ≡ prepend first (write_list (room - 1) (left - n) (drop (8 + n * 16) s))
 
--- What a checking of the write list answers, by its step.
+-- A write list, by its step.
 module _ (room left : ℕ) (s : List ℕ) (step : Result (Option ℕ) ℕ) (is-step : step ≡ chunk_step room left s) where
-  pub write_end : step ≡ Ok None → Ok (record { chunks = 4 - room; segments = 16 - left }) ≡ found (write_answer room left) (write_list room left s)
-  unfolding found joined
-  write_end e = go (chunk_front room left s)
-    where
-      go : ChunkFront room left s → Ok (record { chunks = 4 - room; segments = 16 - left }) ≡ found (write_answer room left) (write_list room left s)
-      go (ends f m) = simp (writes_end left s room m, add-zero)
-      go (unmarked n f m) = absurd (let z : ◌≡◌ {A = ℕ} 0 1 = cc in omega arith)
-      go (full f m h) = absurd (let z : ◌≡◌ {A = ℕ} 0 1 = cc in omega arith)
-      go (uncounted n f m h q) = absurd (let z : ◌≡◌ {A = ℕ} 0 1 = cc in omega arith)
-      go (another c u f m h q) = absurd (let z : ◌≡◌ {A = ℕ} 0 1 = cc in omega arith)
-
-  pub write_refused : (n : ℕ) → step ≡ Err n → {B : Type 0} (f : List (List Segment) → B) → Err n ≡ found f (write_list room left s)
-  unfolding found
-  write_refused n e g = go (chunk_front room left s)
-    where
-      go : ChunkFront room left s → Err n ≡ found g (write_list room left s)
-      go (ends f m) = absurd (let z : ◌≡◌ {A = ℕ} 0 1 = cc in omega arith)
-      go (unmarked k f m) = let same : n ≡ k = cc in rw (writes_unmarked left s room k m, same)
-      go (full f m h) = let same : n ≡ 7 = cc in rw (writes_full left s room h m, same)
-      go (uncounted k f m h q) = let same : n ≡ k = cc in rw (writes_uncounted left s room k h m q, same)
-      go (another c u f m h q) = absurd (let z : ◌≡◌ {A = ℕ} 0 1 = cc in omega arith)
-
-  -- At a chunk: there is room for it, its bytes are there, and the answer is that of the list behind it.
+  -- At a chunk: there is room for it, and its bytes are there.
   module _ (n : ℕ) (e : step ≡ Ok (Some n)) where
     write_further : FurtherChunk room left s n
     write_further = go (chunk_front room left s)
@@ -500,11 +459,107 @@ module _ (room left : ℕ) (s : List ℕ) (step : Result (Option ℕ) ℕ) (is-s
     pub write_long : 8 + n * 16 ≤ length s
     write_long = write_further.long
 
-    pub write_rest : room ≤ 4 → left ≤ 16 → found (write_answer (room - 1) (left - n)) (write_list (room - 1) (left - n) (drop (8 + n * 16) s)) ≡ found (write_answer room left) (write_list room left s)
-    unfolding joined
-    write_rest most all =
-        let f = write_further in
-        rw f.is (found_prepend _ _ f.first _ (λ l. chunk_counts room left n (length l) (length (joined (λ x. x) l)) _ f.room_left most f.few all (length-append f.first (joined (λ x. x) l) ∙ rw f.many)))
+-- What room is left behind the chunks in front, by what stands there.
+pub room_ended : (room left : ℕ) (s : List ℕ) → chunk_step room left s ≡ Ok None → record { chunks = room; segments = left } ≡ room_behind room left s
+unfolding room_behind
+room_ended zero left s e = refl
+room_ended (suc room) left s e = rw e
+
+pub room_refused : (room left : ℕ) (s : List ℕ) (n : ℕ) → chunk_step room left s ≡ Err n → record { chunks = room; segments = left } ≡ room_behind room left s
+unfolding room_behind
+room_refused zero left s n e = refl
+room_refused (suc room) left s n e = rw e
+
+pub room_more : (room left : ℕ) (s : List ℕ) (n : ℕ) → chunk_step room left s ≡ Ok (Some n) → room_behind (room - 1) (left - n) (drop (8 + n * 16) s) ≡ room_behind room left s
+unfolding room_behind
+room_more zero left s n e = absurd (omega (arith, write_room zero left s _ refl n e))
+room_more (suc room) left s n e = let r : suc room - 1 ≡ room = omega arith in rw (e, r)
+
+-- The bytes of the chunks in front, of which room for so many is left.
+abbrev pub bytes_before : ℕ → ℕ → Chunks → ℕ
+bytes_before room left c = (room - c.chunks) * 8 + (left - c.segments) * 16
+
+-- What stands behind the chunks in front ends the list, or is its fault.
+pub record Closes (room left : ℕ) (s : List ℕ) (c : Chunks) : Type 0 where
+  pub few : c.chunks ≤ room
+  pub within : c.segments ≤ left
+  pub long : bytes_before room left c ≤ length s
+  pub faulty : (k : ℕ) → chunk_step c.chunks c.segments (drop (bytes_before room left c) s) ≡ Err k → Err k ≡ list_check 0 (write_list room left s)
+  pub ended : chunk_step c.chunks c.segments (drop (bytes_before room left c) s) ≡ Ok None →
+      (bytes_before room left c + 4 ≤ length s) × (Ok (record { entries = room - c.chunks; left = length s - bytes_before room left c - 4 }) ≡ list_check 0 (write_list room left s))
+  pub no_more : (n : ℕ) → chunk_step c.chunks c.segments (drop (bytes_before room left c) s) ≡ Ok (Some n) → ⊥
+
+pub closed_by : (room left : ℕ) (s : List ℕ) (c : Chunks) → Closes room left s c → (o : Option ℕ) → chunk_step c.chunks c.segments (drop (bytes_before room left c) s) ≡ Ok o →
+    (bytes_before room left c + 4 ≤ length s) × (Ok (record { entries = room - c.chunks; left = length s - bytes_before room left c - 4 }) ≡ list_check 0 (write_list room left s))
+closed_by room left s c p None e = p.ended e
+closed_by room left s c p (Some n) e = absurd (p.no_more n e)
+
+closes_here : (room left : ℕ) (s : List ℕ) → ((n : ℕ) → chunk_step room left s ≡ Ok (Some n) → ⊥) → Closes room left s (record { chunks = room; segments = left })
+unfolding list_check
+closes_here room left s none =
+    let front : (room - room) * 8 + (left - left) * 16 ≡ 0 = omega arith in
+    record {
+      few = omega arith;
+      within = omega arith;
+      long = omega arith;
+      faulty = λ k e. fault (chunk_front room left s) k (rw front at e);
+      ended = λ e. end (chunk_front room left s) (rw front at e);
+      no_more = λ n e. none n (rw front at e);
+    }
+  where
+    fault : ChunkFront room left s → (k : ℕ) → chunk_step room left s ≡ Err k → Err k ≡ list_check 0 (write_list room left s)
+    fault (ends f m) k e = absurd (let z : ◌≡◌ {A = ℕ} 0 1 = cc in omega arith)
+    fault (unmarked n f m) k e = let same : k ≡ n = cc in rw (writes_unmarked left s room n m, same)
+    fault (full f m h) k e = let same : k ≡ 7 = cc in rw (writes_full left s room h m, same)
+    fault (uncounted n f m h q) k e = let same : k ≡ n = cc in rw (writes_uncounted left s room n h m q, same)
+    fault (another c u f m h q) k e = absurd (let z : ◌≡◌ {A = ℕ} 0 1 = cc in omega arith)
+
+    end : ChunkFront room left s → chunk_step room left s ≡ Ok None →
+        ((room - room) * 8 + (left - left) * 16 + 4 ≤ length s) × (Ok (record { entries = room - room; left = length s - ((room - room) * 8 + (left - left) * 16) - 4 }) ≡ list_check 0 (write_list room left s))
+    end (ends f m) e =
+        let four = end_room s m in
+        let none_there : room - room ≡ 0 = omega arith in
+        let rest : length s - ((room - room) * 8 + (left - left) * 16) - 4 ≡ length s - 4 = omega arith in
+        (omega arith, rw (writes_end left s room m, rest, none_there, length-drop 4 s))
+    end (unmarked n f m) e = absurd (let z : ◌≡◌ {A = ℕ} 0 1 = cc in omega arith)
+    end (full f m h) e = absurd (let z : ◌≡◌ {A = ℕ} 0 1 = cc in omega arith)
+    end (uncounted n f m h q) e = absurd (let z : ◌≡◌ {A = ℕ} 0 1 = cc in omega arith)
+    end (another c u f m h q) e = absurd (let z : ◌≡◌ {A = ℕ} 0 1 = cc in omega arith)
+
+closes_later : (room left : ℕ) (s : List ℕ) (n : ℕ) (c : Chunks) → chunk_step room left s ≡ Ok (Some n) → Closes (room - 1) (left - n) (drop (8 + n * 16) s) c → Closes room left s c
+closes_later room left s n c e later =
+    let f = write_further room left s _ refl n e in
+    let pos = f.room_left in
+    let fit = f.few in
+    let long = f.long in
+    let few = later.few in
+    let within = later.within in
+    let size = length-drop (8 + n * 16) s in
+    let place : 8 + n * 16 + ((room - 1 - c.chunks) * 8 + (left - n - c.segments) * 16) ≡ (room - c.chunks) * 8 + (left - c.segments) * 16 = omega arith in
+    let same : chunk_step c.chunks c.segments (drop (bytes_before (room - 1) (left - n) c) (drop (8 + n * 16) s)) ≡ chunk_step c.chunks c.segments (drop (bytes_before room left c) s) =
+    rw (drop-drop (bytes_before (room - 1) (left - n) c) (8 + n * 16) s, place) in
+    record {
+      few = omega arith;
+      within = omega arith;
+      long = omega (arith, later.long);
+      faulty = λ k q. rw f.is (prepend_refusal f.first (write_list (room - 1) (left - n) (drop (8 + n * 16) s)) k (later.faulty k (same ∙ q)));
+      ended = λ q. let d = later.ended (same ∙ q) in
+          let rest : length s - bytes_before room left c - 4 ≡ length (drop (8 + n * 16) s) - bytes_before (room - 1) (left - n) c - 4 = omega arith in
+          let more : room - c.chunks ≡ room - 1 - c.chunks + 1 = omega arith in
+          (omega (arith, d.0), rw (f.is, rest, more) (prepend_checked f.first (write_list (room - 1) (left - n) (drop (8 + n * 16) s)) (room - 1 - c.chunks) _ d.1));
+      no_more = λ k q. later.no_more k (same ∙ q);
+    }
+
+pub closes : (room left : ℕ) (s : List ℕ) → Closes room left s (room_behind room left s)
+unfolding room_behind
+closes zero left s = closes_here zero left s (λ n e. absurd (omega (arith, write_room zero left s _ refl n e)))
+closes (suc room) left s = go (chunk_step (suc room) left s) refl (λ n. closes room (left - n) (drop (8 + n * 16) s))
+  where
+    go : (step : Result (Option ℕ) ℕ) → chunk_step (suc room) left s ≡ step → ((n : ℕ) → Closes room (left - n) (drop (8 + n * 16) s) (room_behind room (left - n) (drop (8 + n * 16) s))) →
+        Closes (suc room) left s (behind_step step (record { chunks = suc room; segments = left }) (λ n. room_behind room (left - n) (drop (8 + n * 16) s)))
+    go (Err n) e again = closes_here (suc room) left s (λ k q. let z : ◌≡◌ {A = ℕ} 0 1 = cc in omega arith)
+    go (Ok None) e again = closes_here (suc room) left s (λ k q. let z : ◌≡◌ {A = ℕ} 0 1 = cc in omega arith)
+    go (Ok (Some n)) e again = let r : suc room - 1 ≡ room = omega arith in closes_later (suc room) left s n _ e (rw r (again n))
 
 -- What a count answers, by its word w.
 module _ (left : ℕ) (s : List ℕ) (w : Result ℕ ℕ) (is : w ≡ word_of s) where

@@ -7,7 +7,7 @@ ghost use Rattle.answers.specs.Refusals.{numbered};
 ghost use Rattle.wire.specs.Wire.{stored, joined, zero_read_segment};
 ghost use Rattle.chunk_lists.specs.Parsed.{each};
 ghost use Rattle.chunk_lists.specs.Lists.{marker_of, read_entry, read_list, counted, write_list};
-ghost use Rattle.chunk_lists.specs.Internal.Steps.{entry_step, read_step, count_step, chunk_step, list_check, found, entries_in_front, chunks_at, ChunksFit, with_writes};
+ghost use Rattle.chunk_lists.specs.Internal.Steps.{entry_step, read_step, count_step, chunk_step, list_check, entries_in_front, room_behind, chunks_at, ChunksFit, with_writes};
 ghost use Rattle.chunk_lists.specs.Words.{reads_in};
 
 use answers::Refusal;
@@ -68,7 +68,7 @@ pub struct ListEnd {
     pub left: usize,
 }
 
-// A write list that was checked: how many chunks it has, and how many segments they have together.
+// How many chunks of a write list, and how many segments in all of them together.
 #[derive(Clone, Copy)]
 pub struct Chunks {
     pub chunks: usize,
@@ -190,21 +190,24 @@ pub fn check_chunk(s: &[u8], room: usize, left: usize) -> Result<Option<usize>, 
     }
 }
 
-// Checks the write list at the front of s, of at most `room` chunks with at most `left` segments together.
-// Stays: beside count_entries, and check_write_list beside check_read_list: a chunk has a length of its own, so where the walk stops has to be answered too.
-fn check_write_entries(s: &[u8], room: usize, left: usize) -> Result<Chunks, Refusal>
-    requires { (room ≤ 4) × (left ≤ 16) }
-    ensures { numbered result ≡ found (λ cs. record { chunks = 4 - room + length cs; segments = 16 - left + length (joined (λ c. c) cs) }) (write_list room left s.now) }
+// How many chunks and segments may still come behind the chunks at the front of s, of at most `room` with at most `left` segments
+// together. (A refusal is not answered here, as in count_entries.)
+// Stays: beside count_entries, and check_write_list beside check_read_list: a chunk has a length of its own, so two numbers say where the walk stops.
+fn room_behind(s: &[u8], room: usize, left: usize) -> Chunks
+    requires { left ≤ 16 }
+    ensures { result ≡ room_behind room left s.now }
 {
-    match check_chunk(s, room, left)? {
-        None => Ok(Chunks {
-            chunks: MAX_WRITE_CHUNKS - room,
-            segments: MAX_WRITE_SEGMENTS - left,
-        }),
-        Some(n) => {
+    let here = Chunks {
+        chunks: room,
+        segments: left,
+    };
+    match check_chunk(s, room, left) {
+        Ok(Some(n)) => {
             let end = CHUNK_HEAD_BYTES + n * wire::SEGMENT_BYTES;
-            check_write_entries(&s[end..], room - 1, left - n)
+            room_behind(&s[end..], room - 1, left - n)
         }
+        Ok(None) => here,
+        Err(_) => here,
     }
 }
 
@@ -218,13 +221,15 @@ pub fn check_write_list(s: &[u8]) -> Result<ListEnd, Refusal>
             left: s.len() - wire::WORD_BYTES,
         });
     }
-    let found = check_write_entries(s, MAX_WRITE_CHUNKS, MAX_WRITE_SEGMENTS)?;
+    let room = room_behind(s, MAX_WRITE_CHUNKS, MAX_WRITE_SEGMENTS);
+    let entries = MAX_WRITE_CHUNKS - room.chunks;
+    let segments = MAX_WRITE_SEGMENTS - room.segments;
+    let rest = &s[entries * CHUNK_HEAD_BYTES + segments * wire::SEGMENT_BYTES..];
+    // What stands behind them ends the list, or is why it is refused.
+    check_chunk(rest, room.chunks, room.segments)?;
     Ok(ListEnd {
-        entries: found.chunks,
-        left: s.len()
-            - wire::WORD_BYTES
-            - found.chunks * CHUNK_HEAD_BYTES
-            - found.segments * wire::SEGMENT_BYTES,
+        entries,
+        left: rest.len() - wire::WORD_BYTES,
     })
 }
 

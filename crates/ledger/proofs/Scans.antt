@@ -1,24 +1,70 @@
--- What the walks along the xids find, and how a gap closes.
+-- What the walks along the xids find, what they clear, and how a gap closes.
 -- Assumes nothing.
-use Rattle.std.proofs.Common.{fold, drop-drop, ◌≡◌, ℕ, ◌+◌, ◌-◌, ◌<◌, ◌≤◌, Bool, ◌&&◌, ◌||◌, eqb, ltb, List, [], ◌∷◌, ◌++◌, length, get_or, take, drop, replicate, sym, refl, ap, ◌∙◌, append-nil, arith, length-drop, drop_of_length-le, take_all, take-take}
-use mathlib.Core.Bool.{and-true, or-false, or_assoc, and_assoc}
-use denote.Ref.{Bor}
-use Rattle.std.specs.declared.slice.Windows.{Windows}
-use Rattle.std.specs.Slice.Iter.{windows_rest, windows_size, windows_steps}
-use Rattle.std.proofs.lemmas.Iterator.{YieldsList}
-use Rattle.std.proofs.lemmas.Iterator.Splits.{YieldsList-from_shown_while}
-use lib.Seq.{paste, take-paste, length-paste, length_paste_head}
-use borrow.Rule.Slice.PartMut.{put_mid}
-use Rattle.std.proofs.lemmas.List.{drop-take}
+use Rattle.std.proofs.Common.{drop-drop, ◌≡◌, ℕ, suc, ◌+◌, ◌-◌, ◌<◌, ◌≤◌, Bool, true, false, ◌&&◌, ◌||◌, eqb, ltb, List, [], ◌∷◌, ◌++◌, length, get_or, take, drop, set, replicate, sym, refl, ap, ◌∙◌, append_assoc, append-nil, add-one, arith, length-append, length-drop, take-append-drop, drop_of_length-le, length-take-le, take_all, drop-cons, take-take}
+use mathlib.Core.Bool.{and-true, or-false}
+use lib.ListN.{length-replicate, replicate-append-replicate}
+use lib.Seq.{set_at, paste, take-paste}
+use Rattle.std.proofs.lemmas.List.{drop-take, take_more_set}
 use Rattle.std.specs.List.{list_any, enumerate_from}
 use Rattle.ledger.specs.Ledger.{max_in_flight, padded, is_in, any_twice}
 use Rattle.ledger.specs.Internal.Search.{rising}
 
--- Whether x is there, as the whole list is gone through.
-pub any_so_far : (x : ℕ) (xs : List ℕ) (met : Bool) → fold (λ (so : Bool) (y : ℕ). so || eqb x y) met xs ≡ (met || is_in x xs)
+-- Whether x is there: before place k, or from there on.
+pub in_next : (x : ℕ) (xs : List ℕ) (k : ℕ) (so : Bool) → k < length xs → is_in x xs ≡ (so || is_in x (drop k xs)) → is_in x xs ≡ ((so || eqb x (get_or xs k 0)) || is_in x (drop (k + 1) xs))
 unfolding is_in
-any_so_far x [] met = sym (or-false met)
-any_so_far x (y ∷ ys) met = any_so_far x ys (met || eqb x y) ∙ or_assoc met (eqb x y) (is_in x ys)
+in_next x xs k so h e = e ∙ rw (add-one, drop-cons xs k 0 h) (either so (eqb x (get_or xs k 0)) (is_in x (drop (suc k) xs)))
+  where
+    either : (a b c : Bool) → (a || (b || c)) ≡ ((a || b) || c)
+    either true b c = refl
+    either false b c = refl
+
+pub in_end : (x : ℕ) (xs : List ℕ) (k : ℕ) (so : Bool) → length xs ≤ k → is_in x xs ≡ (so || is_in x (drop k xs)) → so ≡ is_in x xs
+unfolding is_in
+in_end x xs k so h e = sym (e ∙ rw (drop_of_length-le xs {i = k} h) (or-false so))
+
+-- Whether they rise: as far as place k, and from there on.
+together : (a b c : Bool) → (a && (b && c)) ≡ ((a && b) && c)
+together true b c = refl
+together false b c = refl
+
+pub rising_next : (xs : List ℕ) (k : ℕ) (so : Bool) → k + 1 < length xs → rising xs ≡ (so && rising (drop k xs)) → rising xs ≡ ((so && ltb (get_or xs k 0) (get_or xs (k + 1) 0)) && rising (drop (k + 1) xs))
+unfolding rising
+rising_next xs k so h e =
+    let behind : drop (suc k) xs ≡ get_or xs (suc k) 0 ∷ drop (suc (suc k)) xs = drop-cons xs (suc k) 0 (omega arith) in
+    e ∙ rw (add-one, drop-cons xs k 0 (omega arith), behind) (together so (ltb (get_or xs k 0) (get_or xs (suc k) 0)) (rising (get_or xs (suc k) 0 ∷ drop (suc (suc k)) xs)))
+
+short_rises : (xs : List ℕ) → length xs ≤ 1 → true ≡ rising xs
+unfolding rising
+short_rises [] h = refl
+short_rises (x ∷ []) h = refl
+short_rises (x ∷ y ∷ ys) h = absurd (omega arith)
+
+pub rising_end : (xs : List ℕ) (k : ℕ) (so : Bool) → length xs ≤ k + 1 → rising xs ≡ (so && rising (drop k xs)) → so ≡ rising xs
+rising_end xs k so h e = let few = length-drop k xs in let short = short_rises (drop k xs) (omega arith) in sym (e ∙ rw (← short) (and-true so))
+
+-- The first n kept, zeros from there to place i.
+abbrev pub cleared : ℕ → ℕ → List ℕ → List ℕ
+cleared n i xs = take n xs ++ (replicate (i - n) 0 ++ drop i xs)
+
+pub cleared_none : (n : ℕ) (xs : List ℕ) → xs ≡ cleared n n xs
+cleared_none n xs = let none : n - n ≡ 0 = omega arith in rw none (sym (take-append-drop n xs))
+
+pub cleared_next : (n i : ℕ) (xs : List ℕ) → n ≤ i → i < length xs → set (cleared n i xs) i 0 ≡ cleared n (i + 1) xs
+cleared_next n i xs h k =
+    let front = length-take-le n xs (omega arith) in
+    let long : length (take n xs ++ replicate (i - n) 0) ≡ i = simp (length-append, front, length-replicate {A = ℕ} (i - n) 0) (omega arith) in
+    let one : i + 1 - n ≡ i - n + 1 = omega arith in
+    let before : cleared n i xs ≡ (take n xs ++ replicate (i - n) 0) ++ get_or xs i 0 ∷ drop (suc i) xs =
+    rw (drop-cons xs i 0 k) (sym (append_assoc (take n xs) (replicate (i - n) 0) (get_or xs i 0 ∷ drop (suc i) xs))) in
+    let after : cleared n (i + 1) xs ≡ (take n xs ++ replicate (i - n) 0) ++ 0 ∷ drop (suc i) xs =
+    rw (one, add-one i, ← (replicate-append-replicate {A = ℕ} (i - n) 1 0), append_assoc (replicate (i - n) 0) (0 ∷ []) (drop (suc i) xs))
+    (sym (append_assoc (take n xs) (replicate (i - n) 0) (0 ∷ drop (suc i) xs))) in
+    rw (before, after) (set_at (take n xs ++ replicate (i - n) 0) (get_or xs i 0) (drop (suc i) xs) 0 i long)
+
+pub cleared_all : (n i : ℕ) (xs : List ℕ) → length xs ≡ max_in_flight → n ≤ max_in_flight → i ≡ max_in_flight → cleared n i xs ≡ padded (take n xs)
+cleared_all n i xs long h e =
+    let front = length-take-le n xs (omega arith) in
+    rw (e, drop_of_length-le xs {i = max_in_flight} (omega arith), append-nil {A = ℕ} (replicate (max_in_flight - n) 0), front)
 
 -- A part that reaches to the end.
 rest_is : (xs : List ℕ) (k : ℕ) → take (length xs - k) (drop k xs) ≡ drop k xs
@@ -35,46 +81,14 @@ twice_from xs i (y ∷ ys) e =
 pub twice_at_all : (xs : List ℕ) → list_any (λ (p : ℕ × ℕ). is_in p.1 (take (length xs - (p.0 + 1)) (drop (p.0 + 1) xs))) (enumerate_from 0 xs) ≡ any_twice xs
 twice_at_all xs = twice_from xs 0 xs refl
 
--- Each beside the one behind it.
-pub neighbours : List ℕ → List (List ℕ)
-neighbours [] = []
-neighbours (x ∷ []) = []
-neighbours (x ∷ y ∷ ys) = (x ∷ y ∷ []) ∷ neighbours (y ∷ ys)
-
-none_beside : (xs : List ℕ) → length xs < 2 → length (neighbours xs) ≡ 0
-unfolding neighbours
-none_beside [] h = refl
-none_beside (x ∷ []) h = refl
-none_beside (x ∷ y ∷ ys) h = absurd (omega arith)
-
-two_beside : (xs ys two : List ℕ) → 2 ≤ length xs → two ≡ take 2 xs → ys ≡ drop 1 xs → neighbours xs ≡ two ∷ neighbours ys
-unfolding neighbours
-two_beside [] ys two h e f = absurd (omega arith)
-two_beside (x ∷ []) ys two h e f = absurd (omega arith)
-two_beside (x ∷ y ∷ xs) ys two h e f = rw (e, f) refl
-
--- They are what `windows(2)` gives.
-pub windows_are : (s : Windows ℕ) → windows_size s ≡ 2 → YieldsList windows_steps (λ (w : Bor (List ℕ)). w.now) s (neighbours (windows_rest s))
-windows_are s e = YieldsList-from_shown_while windows_steps (λ (w : Bor (List ℕ)). w.now) (λ t. neighbours (windows_rest t)) (λ t. windows_size t ≡ 2)
-    (λ t u h given. none_beside (windows_rest t) (rw h at given.1.0))
-    (λ t w u h given. (given.0 ∙ h, two_beside (windows_rest t) (windows_rest u) w.now (rw h at given.1.0) (rw h at given.1.1) given.1.2))
-    s e
-
--- Whether they rise, as all are gone through.
-pub rise_so_far : (xs : List ℕ) (rise : Bool) → fold (λ (so : Bool) (two : List ℕ). so && ltb (get_or two 0 0) (get_or two 1 0)) rise (neighbours xs) ≡ (rise && rising xs)
-unfolding rising neighbours
-rise_so_far [] rise = sym (and-true rise)
-rise_so_far (x ∷ []) rise = sym (and-true rise)
-rise_so_far (x ∷ y ∷ ys) rise = rise_so_far (y ∷ ys) (rise && ltb x y) ∙ and_assoc rise (ltb x y) (rising (y ∷ ys))
-
--- What closes a gap: of the first n those behind place p, k of them, move by one, and zeros stand behind the first m.
-pub closed : (n m p k : ℕ) (xs : List ℕ) → n ≡ p + 1 + k → m ≡ p + k → n ≤ max_in_flight → length xs ≡ max_in_flight →
-    put_mid m (max_in_flight - m) (paste xs p (drop (p + 1) xs) k) (replicate (max_in_flight - m) 0) ≡ padded (take p (take n xs) ++ drop (p + 1) (take n xs))
-closed n m p k xs whole fewer few long =
+-- What closes a gap: of the first n those behind place p, k of them, move by one.
+pub closed : (n m p k : ℕ) (xs : List ℕ) → n ≡ p + 1 + k → m ≡ p + k → n ≤ length xs →
+    take m (paste xs p (drop (p + 1) xs) k) ≡ take p (take n xs) ++ drop (p + 1) (take n xs)
+closed n m p k xs whole fewer few =
     let rest = length-drop (p + 1) xs in
-    let moved = paste xs p (drop (p + 1) xs) k in
     let front = take-paste xs p (drop (p + 1) xs) k (omega arith) (omega arith) in
-    let all = length-paste xs p (drop (p + 1) xs) k (omega arith) (omega arith) in
-    let none : drop (max_in_flight - (p + k)) (drop (p + k) moved) ≡ [] = drop-drop (max_in_flight - (p + k)) (p + k) moved ∙ drop_of_length-le moved (omega arith) in
-    let size : length (take p xs ++ take k (drop (p + 1) xs)) ≡ p + k = length_paste_head xs p (drop (p + 1) xs) k (omega arith) (omega arith) in
-    rw (whole, fewer, front, none, append-nil {A = ℕ} (replicate (max_in_flight - (p + k)) 0), take-take p (p + 1 + k) xs (omega arith), drop-take (p + 1) k xs, size)
+    rw (whole, fewer, front, take-take p (p + 1 + k) xs (omega arith), drop-take (p + 1) k xs)
+
+-- One more behind the first n.
+pub one_more : (n : ℕ) (xs : List ℕ) (x : ℕ) → n < length xs → take (n + 1) (set xs n x) ≡ take n xs ++ x ∷ []
+one_more n xs x h = take_more_set xs n x h

@@ -1,14 +1,28 @@
 -- What a send and a reply are, by what they meet.
 -- Assumes nothing.
 use Rattle.std.specs.List.{position_or_len}
-use Rattle.std.proofs.Common.{Ok, Option, Some, None, position, ltb-true, ◌≡◌, ℕ, suc, ◌+◌, ◌-◌, ◌<◌, ◌≤◌, Bool, true, false, cond, not, ◌||◌, eqb, ltb, List, [], ◌∷◌, ◌++◌, length, take, drop, sym, refl, subst, true≢false, suc-add, arith, length-take-le, ltb-false, lt-ltb, ne_eqb}
-use mathlib.Core.Bool.{false≢true}
+use Rattle.std.proofs.Common.{Ok, Err, Option, Some, None, position, ltb-true, ◌≡◌, ℕ, suc, ◌+◌, ◌-◌, ◌<◌, ◌≤◌, Bool, true, false, cond, not, ◌||◌, eqb, ltb, List, [], ◌∷◌, ◌++◌, T as Holds, length, take, drop, sym, refl, subst, true≢false, suc-add, arith, length-take-le, ltb-false, lt-ltb, eq-eqb, ne_eqb}
+use mathlib.Core.Bool.{false≢true, or-true}
 use borrow.Author.Tests.{eqb-false}
 use Rattle.answers.proofs.Checks.{neither, kept}
 use Rattle.ledger.specs.Ledger.{max_in_flight, in_flight, padded, is_in, any_twice, unfit, send_number, send_ledger, reply_number, without, reply_ledger}
-use Rattle.ledger.specs.Internal.Outcomes.{replied}
+use Rattle.ledger.specs.Internal.Outcomes.{sent, replied}
 use Rattle.ledger.specs.declared.Ledger.{Ledger}
 use Rattle.ledger.proofs.Xids.{length_without}
+
+-- A number that differs from 0, as a branch in the code tells it.
+pub not_zero : (n : ℕ) → Holds (not (eqb n 0)) → n ≡ 0 → ⊥
+not_zero n d e = subst (λ (k : ℕ). Holds (not (eqb k 0))) e d
+
+-- A ledger with grant 0 gets 17.
+pub no_grant : (xids : List ℕ) (count grant last : ℕ) → grant ≡ 0 → true ≡ unfit (record { xids = xids; count = count; grant = grant; last = last })
+unfolding unfit
+no_grant xids count grant last e = rw (eq-eqb grant 0 e, or-true (any_twice (take count xids)), or-true (ltb max_in_flight count))
+
+-- A send on one that gets 17 is refused with it.
+pub sent_unfit : (l : Ledger) → unfit l ≡ true → Err 17 ≡ sent l
+unfolding send_number
+sent_unfit l e = rw e
 
 -- What passes the check for 17.
 pub record Fit (l : Ledger) : Type 0 where

@@ -76,7 +76,11 @@ fn holds(list: &[u32], xid: u32) -> bool
     ensures { result ≡ is_in xid list.now }
 {
     // To the end in any case, so that several are compared at once.
-    list.iter().fold(false, |met, x| met | (xid == *x))
+    let mut met = false;
+    for x in list {
+        met |= xid == *x;
+    }
+    met
 }
 
 // Whether each xid is above the one before it.
@@ -84,8 +88,12 @@ fn is_rising(list: &[u32]) -> bool
     ensures { result ≡ rising list.now }
 {
     // To the end in any case, as above.
-    list.windows(2)
-        .fold(true, |rise, two| rise & (two[0] < two[1]))
+    // Stays: a loop by its index. With 15 in flight `windows(2)` takes 23 instructions more and `zip` 16, and a reply then more than the 1.5 times plain Rust's that were asked.
+    let mut rise = true;
+    for i in 1..list.len() {
+        rise &= list[i - 1] < list[i];
+    }
+    rise
 }
 
 // Whether one xid stands in a list twice.
@@ -125,13 +133,24 @@ fn next_xid(list: &[u32], last: u32) -> FoundXid
     FoundXid { xid, passed }
 }
 
+// Zeros behind the first n xids.
+// Stays: a loop, which becomes one `memset`; `fill` stores its last element by itself, and the record is then read across it.
+fn clear(xids: &mut [u32; 32], n: usize)
+    requires { n ≤ 32 }
+    ensures { xids.new ≡ padded (take n xids.old) }
+{
+    for i in n..MAX_IN_FLIGHT {
+        xids[i] = 0;
+    }
+}
+
 // One more xid behind the first n, and zeros behind it.
 fn join(xids: &mut [u32; 32], n: usize, xid: u32)
     requires { n < 32 }
     ensures { xids.new ≡ padded (take n xids.old ++ xid ∷ []) }
 {
     xids[n] = xid;
-    xids[n + 1..].fill(0);
+    clear(xids, n + 1);
 }
 
 // The first n xids without that at place p: those behind it close the gap, and zeros stand behind them.
@@ -140,7 +159,7 @@ fn leave(xids: &mut [u32; 32], n: usize, p: usize)
     ensures { xids.new ≡ padded (take p (take n xids.old) ++ drop (p + 1) (take n xids.old)) }
 {
     xids.copy_within(p + 1..n, p);
-    xids[n - 1..].fill(0);
+    clear(xids, n - 1);
 }
 
 // A send, by value: the ledger after it, and the xid that was found.

@@ -36,7 +36,9 @@ impl Words {
     }
 
     // Those before the error's number, which the library puts behind them.
-    fn without_number(&self) -> &[u8] {
+    fn without_number(&self) -> &[u8]
+        ensures { length result.now ≤ self.now.len }
+    {
         let words = &self.bytes[..self.len];
         let number = b" (os error ";
         match words

@@ -7,6 +7,7 @@ use Rattle.chunk_lists.specs.Parsed.{Parsed, refused, done, each}
 use Rattle.chunk_lists.specs.Lists.{marker_of, read_entry, counted}
 use Rattle.chunk_lists.specs.declared.Marker.{Marker}
 use Rattle.chunk_lists.specs.declared.Marker.TheVariants as marker
+use Rattle.chunk_lists.specs.declared.Chunks.{Chunks}
 use Rattle.chunk_lists.specs.declared.ListEnd.{ListEnd}
 use Rattle.chunk_lists.specs.Words.{segments_words}
 
@@ -47,15 +48,21 @@ one_chunk (Ok n) = Ok (Some n)
 unfoldable pub chunk_step : ℕ → ℕ → List ℕ → Result (Option ℕ) ℕ
 chunk_step room left s = marked None (marker_of s) room (one_chunk (count_step (counted left (drop 4 s))))
 
+-- What may still come behind the chunks in front of a list of at most `room` chunks with at most `left` segments together.
+abbrev pub behind_step : Result (Option ℕ) ℕ → Chunks → (ℕ → Chunks) → Chunks
+behind_step (Err n) here further = here
+behind_step (Ok None) here further = here
+behind_step (Ok (Some n)) here further = further n
+
+unfoldable pub room_behind : ℕ → ℕ → List ℕ → Chunks
+room_behind zero left s = record { chunks = 0; segments = left }
+room_behind (suc room) left s =
+    behind_step (chunk_step (suc room) left s) (record { chunks = suc room; segments = left }) (λ n. room_behind room (left - n) (drop (8 + n * 16) s))
+
 -- A whole list, behind `before` entries: how many entries there are then, and the bytes left behind it.
 unfoldable pub list_check : {A : Type 0} → ℕ → Parsed (List A) → Result ListEnd ℕ
 list_check before (refused n) = Err n
 list_check before (done l t) = Ok (record { entries = before + length l; left = length t })
-
--- A whole list, by what `answer` says of its entries.
-unfoldable pub found : {A B : Type 0} → (List A → B) → Parsed (List A) → Result B ℕ
-found answer (refused n) = Err n
-found answer (done l t) = Ok (answer l)
 
 -- The chunks of a write list that was read, by their count words: the next count word stands behind a marker.
 unfoldable pub chunks_at : ℕ → List ℕ → List (List Segment)

@@ -1,11 +1,17 @@
 -- `ledger::holds` meets its contract.
-use Rattle.std.proofs.Common.{◌||◌, rules, eqb, Bool, false, ◌∙◌, ℕ}
-use Rattle.std.proofs.lemmas.Iterator.{YieldsList-from_slice}
-use Rattle.std.proofs.lemmas.Iterator.Consumers.{fold_from_yields_List}
-use borrow.Author.Tests.{tests}
-use Rattle.ledger.proofs.Scans.{any_so_far}
+use Rattle.std.proofs.Common.{refl, arith}
+use Rattle.ledger.proofs.Scans.{in_next, in_end}
 use Rattle.ledger.proofs.holds.Goals as goal
+
+pub loop-x-init : goal.loop-x-init
+loop-x-init c = refl
+
+pub loop-x-preserved : goal.loop-x-preserved
+loop-x-preserved c = let a = c.args in
+    let turn = c.loop-x in
+    in_next a.xid a.list.now turn.x-index turn.met (omega arith) turn.invariant
 
 pub returns : goal.returns
 returns c = let a = c.args in
-    fold_from_yields_List _ (λ (met : Bool) (x : ℕ). met || eqb a.xid x) false _ c.fold.ensures.ran (YieldsList-from_slice a.list.now cc) (λ met x so q k. search (rules, tests)) ∙ any_so_far a.xid a.list.now false
+    let last = c.loop-x in
+    in_end a.xid a.list.now last.x-index last.met (omega arith) last.invariant
